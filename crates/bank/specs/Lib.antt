@@ -1,0 +1,5 @@
+pub mod Lists
+pub mod Cells
+pub mod Chains
+pub mod Banks
+pub mod Turning
