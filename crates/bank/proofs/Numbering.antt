@@ -5,12 +5,12 @@ use mathlib.Core.Bool.{Bool, true, false, cond}
 use mathlib.Core.List.{List, [], _∷_, _++_, map}
 use Prim.Native.Nat.{ℕ, zero, suc, _+_, _-_, _≤_, _<_}
 use native.Mathlib.Omega.{arith}
-use lib.ListN.{length, getD, set, replicate, length-append, length-map}
+use lib.ListN.{length, getD, set, replicate, length-append, length-map, length-set}
 use lib.Dec.{ltb}
 use Rattle.std.specs.declared.option.Option.{Option}
 use Rattle.std.specs.declared.option.Option.the-variants.{Some, None}
-use Rattle.std.proofs.shelf.Lists.{getD-append-left, getD-append-right, getD-append-add, map-append}
-use Rattle.std.proofs.shelf.Tests.{cases-lt, lt-ltb, le-ltb}
+use Rattle.std.proofs.shelf.Lists.{getD-append-left, getD-append-right, getD-append-add, map-append, getD-map, getD-set-same, getD-set-other}
+use Rattle.std.proofs.shelf.Tests.{cases-lt, cases-eq, lt-ltb, le-ltb}
 use Rattle.bank.specs.declared.Cell.{Cell}
 use Rattle.bank.specs.declared.Queue.{Queue}
 use Rattle.bank.specs.Lists.{list, total}
@@ -88,6 +88,19 @@ module _ {T : Type 0} where
   pub keeps-empties : (n : ℕ) (m : Mem T) (qs : List Queue) (xss : List (List T)) → Keeps m qs xss → Keeps m (replicate n empty ++ qs) (replicate n [] ++ xss)
   keeps-empties zero m qs xss r = r
   keeps-empties (suc n) m qs xss r = keeps-front m (replicate n empty ++ qs) (replicate n [] ++ xss) (keeps-empties n m qs xss r)
+
+  -- a queue with nothing in it is as good as a new one
+  pub keeps-reset : (m : Mem T) (qs : List Queue) (xss : List (List T)) (k : ℕ) → Keeps m qs xss → k < length qs → list xss k ≡ [] → Keeps m (set qs k empty) xss
+  unfolding Keeps
+  keeps-reset m qs xss k c h e =
+      let fs : List (Option T) = replicate (m .free .len) None in let s = c .same in let ls = length-set qs k empty in let lm = length-map xss (map {A = T} Some) in
+      renumber (m .cells) (m .free ∷ qs) (fs ∷ map (map Some) xss) (λ i. i) c (m .free ∷ set qs k empty) (fs ∷ map (map Some) xss) (omega arith) refl
+      (λ j l. elim j as (λ (v : ℕ). v < length (m .free ∷ set qs k empty) → From (λ i. i) (m .free ∷ qs) (fs ∷ map (map Some) xss) (m .free ∷ set qs k empty) (fs ∷ map (map Some) xss) v)
+        [ zero ↦ λ _. inr (0, omega arith, refl, refl, refl)
+        | suc n ↦ λ u. ⊎-elim
+          (λ (z : n ≡ k). inl (rw (z, getD-set-same qs k empty empty h) refl, rw z (getD-map (map Some) xss k [] [] (omega arith) ∙ ap (map Some) e)))
+          (λ (z : n ≢ k). inr (suc n, omega arith, getD-set-other qs k n empty empty z, refl, refl))
+          (cases-eq n k) ] l)
 
   total-append : (xs ys : List (List T)) → total (xs ++ ys) ≡ total xs + total ys
   total-append [] ys = omega arith

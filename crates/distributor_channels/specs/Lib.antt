@@ -1,0 +1,6 @@
+pub mod Meaning
+pub mod Steps
+pub mod Runs
+pub mod Histories
+pub mod Naming
+pub mod Calls
