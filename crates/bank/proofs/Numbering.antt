@@ -95,12 +95,13 @@ module _ {T : Type 0} where
   keeps-reset m qs xss k c h e =
       let fs : List (Option T) = replicate (m .free .len) None in let s = c .same in let ls = length-set qs k empty in let lm = length-map xss (map {A = T} Some) in
       renumber (m .cells) (m .free ∷ qs) (fs ∷ map (map Some) xss) (λ i. i) c (m .free ∷ set qs k empty) (fs ∷ map (map Some) xss) (omega arith) refl
-      (λ j l. elim j as (λ (v : ℕ). v < length (m .free ∷ set qs k empty) → From (λ i. i) (m .free ∷ qs) (fs ∷ map (map Some) xss) (m .free ∷ set qs k empty) (fs ∷ map (map Some) xss) v)
-        [ zero ↦ λ _. inr (0, omega arith, refl, refl, refl)
+      (λ j l. elim j as (λ (v : ℕ). v < length (m .free ∷ set qs k empty) → From (λ i. i) (m .free ∷ qs) (fs ∷ map (map Some) xss) (m .free ∷ set qs k empty) (fs ∷ map (map Some) xss) v) [
+        | zero ↦ λ _. inr (0, omega arith, refl, refl, refl)
         | suc n ↦ λ u. ⊎-elim
-          (λ (z : n ≡ k). inl (rw (z, getD-set-same qs k empty empty h) refl, rw z (getD-map (map Some) xss k [] [] (omega arith) ∙ ap (map Some) e)))
-          (λ (z : n ≢ k). inr (suc n, omega arith, getD-set-other qs k n empty empty z, refl, refl))
-          (cases-eq n k) ] l)
+            (λ (z : n ≡ k). inl (rw (z, getD-set-same qs k empty empty h) refl, rw z (getD-map (map Some) xss k [] [] (omega arith) ∙ ap (map Some) e)))
+            (λ (z : n ≢ k). inr (suc n, omega arith, getD-set-other qs k n empty empty z, refl, refl))
+            (cases-eq n k)
+      ] l)
 
   total-append : (xs ys : List (List T)) → total (xs ++ ys) ≡ total xs + total ys
   total-append [] ys = omega arith

@@ -5,3 +5,10 @@ pub mod Sending
 pub mod Receiving
 pub mod Closing
 pub mod Opening
+pub mod Counting
+pub mod Stepping
+pub mod Linking
+pub mod Waiting
+pub mod Polling
+pub mod LawsHold
+pub mod Chronicle

@@ -37,7 +37,7 @@ noted-more i (x ∷ xs) w h l =
     let n : length (wakers (take i ys)) ≡ i = length-map (take i ys) (λ e. e .waker) ∙ length-take-le i ys (omega arith) in
     let lw : i < length w = omega arith in
     rw (drop-more ys i x h, take-more ys i x h, drop-more w i 0 lw, map-push, append-assoc)
-      (set-at (wakers (take i ys)) (getD w i 0) (drop (i + 1) w) (getD ys i x .waker) i n)
+    (set-at (wakers (take i ys)) (getD w i 0) (drop (i + 1) w) (getD ys i x .waker) i n)
 
 rest-drop : {T : Type 0} (i : ℕ) (xs : List T) → i < length xs → rest (drop i xs) ≡ drop (i + 1) xs
 rest-drop i [] h = absurd (omega arith)
@@ -51,9 +51,10 @@ some-more i m q w m′ q′ w′ m″ q″ w″ lt s o qs xss k r h l =
     let li : i < length (list xss k) = omega arith in
     let kx : k < length xss = omega arith in
     let b = o (set qs k q′) (put xss k (drop i (list xss k))) k (a .0) (is-here qs k q q′ h) in
-    let here : list (put xss k (drop i (list xss k))) k ≡ drop i (list xss k) = getD-set-same xss k (drop i (list xss k)) [] kx in
-    (rw (here, set-set, set-set, rest-drop i (list xss k) li) at (b .0),
-     rw (here, a .1) at (b .1) ∙ noted-more i (list xss k) w li l)
+    let here : list (put xss k (drop i (list xss k))) k ≡ drop i (list xss k) = getD-set-same xss k (drop i (list xss k)) [] kx in (
+      rw (here, set-set, set-set, rest-drop i (list xss k) li) at (b .0),
+      rw (here, a .1) at (b .1) ∙ noted-more i (list xss k) w li l,
+    )
 
 pub all-named : (i r : ℕ) (m : Mem Entry) (q : Queue) (w : List ℕ) (m′ : Mem Entry) (q′ : Queue) (w′ : List ℕ) → i ≡ q .len → r ≡ i → NamesSome i m q w m′ q′ w′ → Names m q w m′ q′ w′ r
 all-named i n m q w m′ q′ w′ e en s qs xss k r h l =

@@ -42,7 +42,8 @@ module _ {T : Type 0} where
         queued = rw (rs, map-replicate (λ (r : Channel). lineOf (r .queue)) n ch, q, map-replicate (λ (r : Chan T). r .queue) n new) (keeps-empties n (ms .elements) (o .lines) (o .queued) kx);
         marks = rw (rs, map-replicate markOf n ch, map-replicate mark n new, mk) refl;
         count = ect ∙ sym (count-opened T n v pos);
-        few = simp length-replicate le }
+        few = simp length-replicate le;
+      }
 
   -- lengths that were right at opening fit
   pub fits-opened : (c : Channels) (ms : Mems T) → c .cells ≡ size (ms .elements) → c .places ≡ size (ms .entries) → size (ms .entries) ≤ length (ms .woken) → facts c ms .fit ≡ true
@@ -61,5 +62,5 @@ module _ {T : Type 0} where
   unfolding Represents
   recounted c ms n e o m st =
       let t = tally-same (records c) (m .chans) (same-length (c .sending) (records c) (c .count) (ms .entries) (ms .elements) o m st)
-        (λ k h. same-open (c .sending) (records c) (c .count) (ms .entries) (ms .elements) o m st k (getD (records c) k shutRecord) h refl) in
+      (λ k h. same-open (c .sending) (records c) (c .count) (ms .entries) (ms .elements) o m st k (getD (records c) k shutRecord) h refl) in
       (e ∙ t, e ∙ t ∙ sym (st .count))

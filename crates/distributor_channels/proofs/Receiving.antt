@@ -96,9 +96,9 @@ module _ {T : Type 0} (c : Channels) (ms : Mems T) (k w : ℕ) where
               ⊎-elim
               (λ (h : 0 < freed (ms .entries)). absurd (both-ways _ bad (ap isOk (b .0 h .0))))
               (λ (h : freed (ms .entries) ≤ 0).
-                let f : eqb (freed (ms .entries)) 0 ≡ true = eq-eqb _ _ (omega arith) in
-                let n = b .1 (omega arith) in
-                rw (e .1, n .1, way.receive-full (facts c ms) m k (chan m k) (finds c ms k ch fd o m st) w (receiver-is o m st (Some q) eq) (e .0) (sender o m st) f) (refl, refl, st, λ _. (refl, refl)))
+              let f : eqb (freed (ms .entries)) 0 ≡ true = eq-eqb _ _ (omega arith) in
+              let n = b .1 (omega arith) in
+              rw (e .1, n .1, way.receive-full (facts c ms) m k (chan m k) (finds c ms k ch fd o m st) w (receiver-is o m st (Some q) eq) (e .0) (sender o m st) f) (refl, refl, st, λ _. (refl, refl)))
               (cases-lt 0 (freed (ms .entries)))
 
           pub receive-wait : isOk r ≡ true → (t′ : List Channel) → t′ ≡ set (c .table) k (record { queue = ch .queue; receiving = p′; senders = ch .senders }) →
@@ -110,16 +110,16 @@ module _ {T : Type 0} (c : Channels) (ms : Mems T) (k w : ℕ) where
               let b = d _ _ (suc k) (st .waiting) (is-wait s rs n (ms .entries) (ms .elements) o m st k ch (fd .inside) (fd .is)) in
               ⊎-elim
               (λ (h : 0 < freed (ms .entries)).
-                let f : eqb (freed (ms .entries)) 0 ≡ false = ne-eqb _ _ (λ u. omega arith) in
-                let new : Channel = record { queue = ch .queue; receiving = p′; senders = ch .senders } in
-                let kw = rw (wait-is s rs n (ms .entries) (ms .elements) o m st k ch (fd .inside) (fd .is)) at (b .0 h .1) in
-                let kq = lines-kept s rs n (ms .entries) (ms .elements) o m st k ch (fd .inside) (fd .is) in
-                let mk = same-mark s rs n (ms .entries) (ms .elements) o m st k ch (fd .inside) (fd .is) in
-                let z = stands-set s rs n (ms .entries) (ms .elements) o m st k ch (fd .inside) (fd .is) s new n em′ (ms .elements) (m .sending) (withReceiving (push (chan m k .receiving) (entry w k)) (chan m k)) kw kq mk refl in
-                let z2 : Stands s (take (c .n) t′) n em′ (ms .elements) o (record { chans = set (m .chans) k (withReceiving (push (chan m k .receiving) (entry w k)) (chan m k)); sending = m .sending }) =
-                  rw (et, take-set (c .n) (c .table) k new) z in
-                rw (e .1, way.receive-wait (facts c ms) m k (chan m k) (finds c ms k ch fd o m st) w (receiver-is o m st (Some q) eq) (e .0) (sender o m st) f)
-                (refl, refl, z2, λ u. absurd (both-ways _ u refl)))
+              let f : eqb (freed (ms .entries)) 0 ≡ false = ne-eqb _ _ (λ u. omega arith) in
+              let new : Channel = record { queue = ch .queue; receiving = p′; senders = ch .senders } in
+              let kw = rw (wait-is s rs n (ms .entries) (ms .elements) o m st k ch (fd .inside) (fd .is)) at (b .0 h .1) in
+              let kq = lines-kept s rs n (ms .entries) (ms .elements) o m st k ch (fd .inside) (fd .is) in
+              let mk = same-mark s rs n (ms .entries) (ms .elements) o m st k ch (fd .inside) (fd .is) in
+              let z = stands-set s rs n (ms .entries) (ms .elements) o m st k ch (fd .inside) (fd .is) s new n em′ (ms .elements) (m .sending) (withReceiving (push (chan m k .receiving) (entry w k)) (chan m k)) kw kq mk refl in
+              let z2 : Stands s (take (c .n) t′) n em′ (ms .elements) o (record { chans = set (m .chans) k (withReceiving (push (chan m k .receiving) (entry w k)) (chan m k)); sending = m .sending }) =
+              rw (et, take-set (c .n) (c .table) k new) z in
+              rw (e .1, way.receive-wait (facts c ms) m k (chan m k) (finds c ms k ch fd o m st) w (receiver-is o m st (Some q) eq) (e .0) (sender o m st) f)
+              (refl, refl, z2, λ u. absurd (both-ways _ u refl)))
               (λ (h : freed (ms .entries) ≤ 0). let n = b .1 (omega arith) .0 in absurd (both-ways _ (ap isOk n) good))
               (cases-lt 0 (freed (ms .entries)))
 
@@ -171,7 +171,7 @@ module _ {T : Type 0} (c : Channels) (ms : Mems T) (k w : ℕ) where
               by false t = way.receive-more (facts c ms) m k (chan m k) (finds c ms k ch fd o m st) w (receiver-is o m st (Some q) eq) x (rest (chan m k .queue)) queue-was t
               by true t =
                   let u : ltb 0 (chan m k .senders) ≡ false =
-                    ⊎-elim (λ (p : ltb 0 (chan m k .senders) ≡ true). absurd (both-ways _ e (and-from _ _ (receiver-is o m st (Some q) eq) (and-from _ _ p t)))) (λ (p : ltb 0 (chan m k .senders) ≡ false). p) (cases-bool (ltb 0 (chan m k .senders))) in
+                  ⊎-elim (λ (p : ltb 0 (chan m k .senders) ≡ true). absurd (both-ways _ e (and-from _ _ (receiver-is o m st (Some q) eq) (and-from _ _ p t)))) (λ (p : ltb 0 (chan m k .senders) ≡ false). p) (cases-bool (ltb 0 (chan m k .senders))) in
                   let z : eqb (chan m k .senders) 0 ≡ true = eq-eqb _ _ (let v = ltb-false 0 (chan m k .senders) u in omega arith) in
                   way.receive-last (facts c ms) m k (chan m k) (finds c ms k ch fd o m st) w (receiver-is o m st (Some q) eq) x (rest (chan m k .queue)) queue-was t z
 

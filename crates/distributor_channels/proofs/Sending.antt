@@ -112,9 +112,9 @@ module _ {T : Type 0} where
               let b = a _ _ 0 (st .waiting) (omega arith, refl) in
               ⊎-elim
               (λ (h : 0 < freed (ms .entries)).
-                let f : eqb (freed (ms .entries)) 0 ≡ false = ne-eqb _ _ (λ e. omega arith) in
-                rw (way.send-wait (facts c ms) m k (chan m k) (finds c ms k ch fd o m st) w x (some-senders o m st some) (receiver-is o m st (Some q) eq) (shut-is o m st z) f)
-                (refl, refl, record { waiting = b .0 h .1; queued = st .queued; marks = st .marks; count = st .count; few = st .few }, λ u. absurd (both-ways _ u refl)))
+              let f : eqb (freed (ms .entries)) 0 ≡ false = ne-eqb _ _ (λ e. omega arith) in
+              rw (way.send-wait (facts c ms) m k (chan m k) (finds c ms k ch fd o m st) w x (some-senders o m st some) (receiver-is o m st (Some q) eq) (shut-is o m st z) f)
+              (refl, refl, record { waiting = b .0 h .1; queued = st .queued; marks = st .marks; count = st .count; few = st .few }, λ u. absurd (both-ways _ u refl)))
               (λ (h : freed (ms .entries) ≤ 0). let d = b .1 (omega arith) .0 in let u : _≡_ {A = ℕ} 0 1 = cc in absurd (omega arith))
               (cases-lt 0 (freed (ms .entries)))
 
@@ -126,9 +126,9 @@ module _ {T : Type 0} where
               ⊎-elim
               (λ (h : 0 < freed (ms .entries)). let d = b .0 h .0 in let u : _≡_ {A = ℕ} 0 1 = cc in absurd (omega arith))
               (λ (h : freed (ms .entries) ≤ 0).
-                let d = b .1 (omega arith) in
-                let f : eqb (freed (ms .entries)) 0 ≡ true = eq-eqb _ _ (omega arith) in
-                rw (d .1, d .2, way.send-full (facts c ms) m k (chan m k) (finds c ms k ch fd o m st) w x (some-senders o m st some) (receiver-is o m st (Some q) eq) (shut-is o m st z) f) (refl, refl, st, λ _. (refl, refl)))
+              let d = b .1 (omega arith) in
+              let f : eqb (freed (ms .entries)) 0 ≡ true = eq-eqb _ _ (omega arith) in
+              rw (d .1, d .2, way.send-full (facts c ms) m k (chan m k) (finds c ms k ch fd o m st) w x (some-senders o m st some) (receiver-is o m st (Some q) eq) (shut-is o m st z) f) (refl, refl, st, λ _. (refl, refl)))
               (cases-lt 0 (freed (ms .entries)))
 
           module _ (up : c .count ≡ 0 → ⊥) where
@@ -147,10 +147,10 @@ module _ {T : Type 0} where
                 ⊎-elim
                 (λ (h : 0 < freed (ms .elements)). let d = b .0 h .0 in let u : _≡_ {A = ℕ} 0 1 = cc in absurd (omega arith))
                 (λ (h : freed (ms .elements) ≤ 0).
-                  let d = b .1 (omega arith) in
-                  let ey : y ≡ x = let e = d .0 in cc in
-                  let f : eqb (freed (ms .elements)) 0 ≡ true = eq-eqb _ _ (omega arith) in
-                  rw (ey, d .1, way.send-short (facts c ms) m k (chan m k) (finds c ms k ch fd o m st) w x (some-senders o m st some) (receiver-is o m st (Some q) eq) (open-is o m st) f) (refl, refl, st, λ _. (refl, refl)))
+                let d = b .1 (omega arith) in
+                let ey : y ≡ x = let e = d .0 in cc in
+                let f : eqb (freed (ms .elements)) 0 ≡ true = eq-eqb _ _ (omega arith) in
+                rw (ey, d .1, way.send-short (facts c ms) m k (chan m k) (finds c ms k ch fd o m st) w x (some-senders o m st some) (receiver-is o m st (Some q) eq) (open-is o m st) f) (refl, refl, st, λ _. (refl, refl)))
                 (cases-lt 0 (freed (ms .elements)))
 
             -- a cell was free
@@ -189,7 +189,7 @@ module _ {T : Type 0} where
                   let kw = waits-kept s rs n (ms .entries) (ms .elements) o m st k ch (fd .inside) (fd .is) in
                   let z = stands-set s rs n (ms .entries) (ms .elements) o m st k ch (fd .inside) (fd .is) s (requeued ch q′ (ch .receiving)) n (ms .entries) xm′ (m .sending) (withQueue (push (chan m k .queue) x) (chan m k)) kw (kept o m st) (marked o m st (ch .receiving)) ct in
                   let z2 : Stands s (take (c .n) t′) n (ms .entries) xm′ o (record { chans = set (m .chans) k (withQueue (push (chan m k .queue) x) (chan m k)); sending = m .sending }) =
-                    rw (et, take-set (c .n) (c .table) k (requeued ch q′ (ch .receiving))) z in
+                  rw (et, take-set (c .n) (c .table) k (requeued ch q′ (ch .receiving))) z in
                   rw (way.send-behind (facts c ms) m k (chan m k) (finds c ms k ch fd o m st) w x (some-senders o m st some) (receiver-is o m st (Some q) eq) (open-is o m st) (free-is o m st) no)
                   (refl, refl, z2, λ u. absurd (both-ways _ u refl))
 

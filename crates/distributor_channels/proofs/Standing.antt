@@ -106,7 +106,7 @@ module _ {T : Type 0} where
       pub same-mark : markOf ch ≡ mark (chan m k)
       same-mark =
           rw ech (sym (getD-map markOf rs k shutRecord (markOf shutRecord) h) ∙ ap (λ (l : List Mark). getD l k (markOf shutRecord)) (st .marks)
-            ∙ getD-map mark (m .chans) k shut (markOf shutRecord) within)
+          ∙ getD-map mark (m .chans) k shut (markOf shutRecord) within)
 
       pub same-senders : ch .senders ≡ chan m k .senders
       same-senders = ap (λ (x : Mark). x .senders) same-mark
@@ -146,7 +146,8 @@ module _ {T : Type 0} where
             queued = rw (set-in (λ r. lineOf (r .queue)) rs (o .lines) k h r′, set-in (λ c. c .queue) (m .chans) (o .queued) k within c′) at kq;
             marks = map-set markOf rs k r′ ∙ rw (st .marks, mk) (sym (map-set mark (m .chans) k c′));
             count = omega arith;
-            few = rw length-set fw }
+            few = rw length-set fw;
+          }
 
       -- parts that stay
       pub waits-kept : Keeps em (s ∷ set (map (λ r. r .receiving) rs ++ o .waits) k (ch .receiving)) (m .sending ∷ set (map (λ c. c .receiving) (m .chans) ++ o .waiting) k (chan m k .receiving))

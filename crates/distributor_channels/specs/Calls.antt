@@ -22,6 +22,7 @@ use Rattle.distributor_channels.specs.declared.Channel.{Channel}
 use Rattle.distributor_channels.specs.declared.Channels.{Channels}
 use Rattle.distributor_channels.specs.declared.Memories.{Memories}
 use Rattle.distributor_channels.specs.Meaning.{Chan, Meaning, Facts, Out, onto, openCount, opened}
+use Rattle.distributor_channels.specs.Histories.{Event, Run, Laws}
 
 -- the records in use
 abbrev pub records : Channels → List Channel
@@ -113,6 +114,11 @@ module _ {T : Type 0} where
       × Represents c′ ms′ o (step (facts c ms) m .next)
       × (isOk r ≡ false → (c′ ≡ c) × (ms′ ≡ ms))
 
+  -- The call with its answer and the wakers that it named makes every history that led here longer by one, and the laws hold of that.
+  abbrev pub Chronicles : {A E : Type 0} → (Result A E → List ℕ → Event T) → (Facts → Meaning T → Out T (Result A E)) → Channels → Mems T → Result A E → Type 0
+  Chronicles call step c ms r = (n v : ℕ) (h : List (Event T)) (o : Others T) (m : Meaning T) → Represents c ms o m → Run n v h m →
+      Run n v (call r (step (facts c ms) m .named) ∷ h) (step (facts c ms) m .next) × Laws n v (call r (step (facts c ms) m .named) ∷ h) (step (facts c ms) m .next)
+
   -- where the lengths are wrong, whatever the memories hold: this answer, and no change
   abbrev pub Unfit : {A : Type 0} → A → Channels → Mems T → Channels → Mems T → A → Type 0
   Unfit a c ms c′ ms′ r = facts c ms .fit ≡ false → (r ≡ a) × (c′ ≡ c) × (ms′ ≡ ms)
@@ -134,7 +140,7 @@ module _ {T : Type 0} where
   abbrev pub Opens : Mems T → ℕ → ℕ → Result Channels Refusal → Type 0
   Opens ms n v r = ByOk r
       (λ c. (unopened (size (ms .elements)) (size (ms .entries)) (length (ms .woken)) n v ≡ None) × (facts c ms .fit ≡ true)
-        × ((o : Others T) → Keeps (ms .entries) (o .waits) (o .waiting) → Keeps (ms .elements) (o .lines) (o .queued) → Represents c ms o (opened n v)))
+      × ((o : Others T) → Keeps (ms .entries) (o .waits) (o .waiting) → Keeps (ms .elements) (o .lines) (o .queued) → Represents c ms o (opened n v)))
       (λ why. unopened (size (ms .elements)) (size (ms .entries)) (length (ms .woken)) n v ≡ Some why)
 
   -- the count by its definition, which is the count kept

@@ -100,6 +100,13 @@ module _ {T : Type 0} where
   heldReceive (Ok End) = false
   heldReceive (Err why) = wanting why
 
+  -- the receiver was told the end
+  abbrev pub ends : ReceiveAnswer T → Bool
+  ends (Ok (Element x _)) = false
+  ends (Ok Await) = false
+  ends (Ok End) = true
+  ends (Err _) = false
+
   -- the wakers that a call named
   abbrev pub names : Event T → List ℕ
   names (sends k w x a ws) = ws
@@ -193,9 +200,12 @@ pub record Laws {T : Type 0} (n v : ℕ) (h : List (Event T)) (m : Meaning T) : 
   -- an open receiver is held back exactly when everything accepted was given, and a sender is open
   pub receivers : (f : Facts) (k w : ℕ) → f .fit ≡ true → k < n → heard k h ≡ true →
       heldReceive (receiveStep f m k w .answer) ≡ (ltb (left k h) v && eqb (length (given k h)) (length (accepted k h)))
+  -- and it is told the end exactly when everything accepted was given, and no sender is open
+  pub endings : (f : Facts) (k w : ℕ) → f .fit ≡ true → k < n → heard k h ≡ true →
+      ends (receiveStep f m k w .answer) ≡ (not (ltb (left k h) v) && eqb (length (given k h)) (length (accepted k h)))
   -- a sender that was told to wait, still open, its waker unnamed since, would be held back again
-  pub noSenderForgotten : (f : Facts) (k w : ℕ) (x : T) → f .fit ≡ true → sendWaits k w h ≡ true → left k h < v →
-      heldSend (sendStep f m k w x .answer) ≡ true
+  pub noSenderForgotten : (f : Facts) (k w u : ℕ) (x : T) → f .fit ≡ true → sendWaits k w h ≡ true → left k h < v →
+      heldSend (sendStep f m k u x .answer) ≡ true
   -- a receiver that was told to wait, still open, its waker unnamed since, would be held back again
-  pub noReceiverForgotten : (f : Facts) (k w : ℕ) → f .fit ≡ true → receiveWaits k w h ≡ true → heard k h ≡ true →
-      heldReceive (receiveStep f m k w .answer) ≡ true
+  pub noReceiverForgotten : (f : Facts) (k w u : ℕ) → f .fit ≡ true → receiveWaits k w h ≡ true → heard k h ≡ true →
+      heldReceive (receiveStep f m k u .answer) ≡ true

@@ -47,16 +47,16 @@ module _ {T : Type 0} where
   abbrev pub accept : Meaning T → ℕ → T → Chan T → Out T (SendAnswer T)
   accept m k x c =
       cond (none (c .queue))
-        (out (Ok (Sent (length (c .receiving)))) (wakers (c .receiving)) (withChan k (withReceiving [] (withQueue (push (c .queue) x) c)) m))
-        (out (Ok (Sent 0)) [] (withChan k (withQueue (push (c .queue) x) c) m))
+      (out (Ok (Sent (length (c .receiving)))) (wakers (c .receiving)) (withChan k (withReceiving [] (withQueue (push (c .queue) x) c)) m))
+      (out (Ok (Sent 0)) [] (withChan k (withQueue (push (c .queue) x) c) m))
 
   abbrev pub sendTo : Facts → Meaning T → ℕ → ℕ → T → Chan T → Out T (SendAnswer T)
   sendTo f m k w x c =
       cond (eqb (c .senders) 0) (out (back Shut x) [] m)
-        (cond (not (c .receiver)) (out (Ok (Closed x)) [] m)
-          (cond (eqb (openCount (m .chans)) 0)
-            (cond (eqb (f .places) 0) (out (back Places x) [] m) (out (Ok (Wait x)) [] (withSending (push (m .sending) (entry w k)) m)))
-            (cond (eqb (f .cells) 0) (out (back Cells x) [] m) (accept m k x c))))
+      (cond (not (c .receiver)) (out (Ok (Closed x)) [] m)
+      (cond (eqb (openCount (m .chans)) 0)
+      (cond (eqb (f .places) 0) (out (back Places x) [] m) (out (Ok (Wait x)) [] (withSending (push (m .sending) (entry w k)) m)))
+      (cond (eqb (f .cells) 0) (out (back Cells x) [] m) (accept m k x c))))
 
   abbrev pub sendBy : Facts → Meaning T → ℕ → ℕ → T → Result (Chan T) Refusal → Out T (SendAnswer T)
   sendBy f m k w x (Ok c) = sendTo f m k w x c
@@ -70,17 +70,17 @@ module _ {T : Type 0} where
   abbrev pub hand : Meaning T → ℕ → T → List T → Chan T → Out T (ReceiveAnswer T)
   hand m k x xs c =
       cond (none xs)
-        (cond (eqb (c .senders) 0) (out (Ok (Element x 0)) [] (withChan k (withQueue xs c) m))
-          (cond (eqb (openCount (m .chans)) 0)
-            (out (Ok (Element x (length (m .sending)))) (wakers (m .sending)) (withSending [] (withChan k (withQueue xs c) m)))
-            (out (Ok (Element x 0)) [] (withChan k (withQueue xs c) m))))
-        (out (Ok (Element x 0)) [] (withChan k (withQueue xs c) m))
+      (cond (eqb (c .senders) 0) (out (Ok (Element x 0)) [] (withChan k (withQueue xs c) m))
+      (cond (eqb (openCount (m .chans)) 0)
+      (out (Ok (Element x (length (m .sending)))) (wakers (m .sending)) (withSending [] (withChan k (withQueue xs c) m)))
+      (out (Ok (Element x 0)) [] (withChan k (withQueue xs c) m))))
+      (out (Ok (Element x 0)) [] (withChan k (withQueue xs c) m))
 
   -- on an empty queue: the end, or the waker is entered
   abbrev pub await : Facts → Meaning T → ℕ → ℕ → Chan T → Out T (ReceiveAnswer T)
   await f m k w c =
       cond (eqb (c .senders) 0) (out (Ok End) [] m)
-        (cond (eqb (f .places) 0) (out (Err Places) [] m) (out (Ok Await) [] (withChan k (withReceiving (push (c .receiving) (entry w k)) c) m)))
+      (cond (eqb (f .places) 0) (out (Err Places) [] m) (out (Ok Await) [] (withChan k (withReceiving (push (c .receiving) (entry w k)) c) m)))
 
   abbrev pub receiveOf : Facts → Meaning T → ℕ → ℕ → Chan T → List T → Out T (ReceiveAnswer T)
   receiveOf f m k w c [] = await f m k w c
@@ -98,9 +98,9 @@ module _ {T : Type 0} where
   abbrev pub leave : Meaning T → ℕ → Chan T → Out T CloseAnswer
   leave m k c =
       cond (eqb (c .senders) 0) (out (Err Shut) [] m)
-        (cond (eqb (c .senders) 1)
-          (out (Ok (length (c .receiving))) (wakers (c .receiving)) (withChan k (withReceiving [] (withSenders 0 c)) m))
-          (out (Ok 0) [] (withChan k (withSenders (c .senders - 1) c) m)))
+      (cond (eqb (c .senders) 1)
+      (out (Ok (length (c .receiving))) (wakers (c .receiving)) (withChan k (withReceiving [] (withSenders 0 c)) m))
+      (out (Ok 0) [] (withChan k (withSenders (c .senders - 1) c) m)))
 
   abbrev pub closeSenderBy : Meaning T → ℕ → Result (Chan T) Refusal → Out T CloseAnswer
   closeSenderBy m k (Ok c) = leave m k c
@@ -114,8 +114,8 @@ module _ {T : Type 0} where
   abbrev pub leaveUnheard : Meaning T → ℕ → Chan T → Out T CloseAnswer
   leaveUnheard m k c =
       cond (c .receiver)
-        (out (Ok (length (kept-by (on k) (m .sending)))) (wakers (kept-by (on k) (m .sending))) (withSending (without (on k) (m .sending)) (withChan k (unheard c) m)))
-        (out (Err Shut) [] m)
+      (out (Ok (length (kept-by (on k) (m .sending)))) (wakers (kept-by (on k) (m .sending))) (withSending (without (on k) (m .sending)) (withChan k (unheard c) m)))
+      (out (Err Shut) [] m)
 
   abbrev pub closeReceiverBy : Meaning T → ℕ → Result (Chan T) Refusal → Out T CloseAnswer
   closeReceiverBy m k (Ok c) = leaveUnheard m k c

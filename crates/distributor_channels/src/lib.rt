@@ -22,7 +22,8 @@ ghost use mathlib.Core.Bool.{cond};
 ghost use mathlib.Core.Path.{_≡_};
 ghost use Prim.Native.Nat.{_+_, _-_, _<_};
 ghost use Rattle.bank.specs.Banks.{view, size};
-ghost use Rattle.distributor_channels.specs.Calls.{records, shutRecord, recordOpen, tallied, fits, found, seen, facts, Does, Unfit, Same, Steady, Opens, Recounts, within};
+ghost use Rattle.distributor_channels.specs.Calls.{records, shutRecord, recordOpen, tallied, fits, found, seen, facts, Does, Chronicles, Unfit, Same, Steady, Opens, Recounts, within};
+ghost use Rattle.distributor_channels.specs.Histories.{sends, receives, closesSender, closesReceiver};
 ghost use Rattle.distributor_channels.specs.Meaning.{bit, on};
 ghost use Rattle.distributor_channels.specs.Naming.{NamesOne, Names, Empties};
 ghost use Rattle.distributor_channels.specs.Runs.{Runs};
@@ -36,8 +37,11 @@ use refusal::Refusal;
 
 // Limits. Two bytes could number the message cells, and twelve bits the waiting places; 32 is the bound on feeds and rooms.
 const MOST_CELLS: usize = 65535;
+
 const MOST_PLACES: usize = 4096;
+
 const MOST_CHANNELS: usize = 32;
+
 const MOST_SENDERS: u32 = 32;
 
 // Who waits, and on which channel.
@@ -174,7 +178,15 @@ fn discard<T: Drop>(elements: &mut Bank<T>, q: &mut Queue)
 fn record_at(table: &[Channel], n: usize, k: usize) -> Channel
     ensures { λ r. ⌜ r ≡ getD (take n (now (table .entry))) k shutRecord ⌝ }
 {
-    if k < n && k < table.len() { table[k] } else { Channel { queue: None, receiving: Queue::new(), senders: 0 } }
+    if k < n && k < table.len() {
+        table[k]
+    } else {
+        Channel {
+            queue: None,
+            receiving: Queue::new(),
+            senders: 0,
+        }
+    }
 }
 
 // Writes the record `k`, if it is there.
@@ -199,7 +211,6 @@ fn first_of(table: &[Channel], n: usize) -> &[Channel]
 {
     if n < table.len() { &table[0..n] } else { table }
 }
-
 
 // Does the channel count as open: an open receiver, an open sender and an empty queue?
 fn is_open(channel: &Channel) -> bool
@@ -265,8 +276,19 @@ impl Channels {
         if n > MOST_CHANNELS || senders < 1 || senders > MOST_SENDERS {
             return Err(Refusal::Range);
         }
-        let channel = Channel { queue: Some(Queue::new()), receiving: Queue::new(), senders };
-        Ok(Channels { n, table: [channel; 32], sending: Queue::new(), count: n, places, cells })
+        let channel = Channel {
+            queue: Some(Queue::new()),
+            receiving: Queue::new(),
+            senders,
+        };
+        Ok(Channels {
+            n,
+            table: [channel; 32],
+            sending: Queue::new(),
+            count: n,
+            places,
+            cells,
+        })
     }
 
     // The open count by its definition: how many channels have an open receiver, an open sender and an empty queue.
@@ -281,7 +303,9 @@ impl Channels {
         ensures { λ r. ⌜ r ≡ facts (now (self .entry)) (seen (now (memories .entry))) .fit ⌝ }
     {
         let places = memories.entries.size();
-        self.cells == memories.elements.size() && self.places == places && places <= memories.woken.list.len()
+        self.cells == memories.elements.size()
+            && self.places == places
+            && places <= memories.woken.list.len()
     }
 
     // The record of `channel`, once lengths and range are right.
@@ -298,8 +322,15 @@ impl Channels {
     }
 
     // Polls the send of `element` on `channel`; who has to wait leaves `waker`.
-    pub fn send_poll<T>(&mut self, memories: &mut Memories<T>, channel: usize, waker: u32, element: T) -> Result<SendPoll<T>, Refused<T>>
+    pub fn send_poll<T>(
+        &mut self,
+        memories: &mut Memories<T>,
+        channel: usize,
+        waker: u32,
+        element: T,
+    ) -> Result<SendPoll<T>, Refused<T>>
         ensures law { λ r. ⌜ Does (λ f m. sendStep f m channel waker element) (now (self .entry)) (seen (now (memories .entry))) (now (self .exit)) (seen (now (memories .exit))) r ⌝ }
+        ensures history { λ r. ⌜ Chronicles (sends channel waker element) (λ f m. sendStep f m channel waker element) (now (self .entry)) (seen (now (memories .entry))) r ⌝ }
         ensures unfit { λ r. ⌜ Unfit (back Lengths element) (now (self .entry)) (seen (now (memories .entry))) (now (self .exit)) (seen (now (memories .exit))) r ⌝ }
         ensures same { λ _. ⌜ Same (now (memories .entry)) (now (memories .exit)) ⌝ }
         ensures steady { λ _. ⌜ Steady (now (self .entry)) (seen (now (memories .entry))) (now (self .exit)) (seen (now (memories .exit))) ⌝ }
@@ -309,35 +340,56 @@ impl Channels {
             Err(why) => return Err(Refused { why, element }),
         };
         if record.senders == 0 {
-            return Err(Refused { why: Refusal::Closed, element });
+            return Err(Refused {
+                why: Refusal::Closed,
+                element,
+            });
         }
         let Some(mut queue) = record.queue else {
             return Ok(SendPoll::Closed(element));
         };
         if self.count == 0 {
-            return match memories.entries.add(&mut self.sending, Entry { waker, channel }) {
+            return match memories
+                .entries
+                .add(&mut self.sending, Entry { waker, channel }) {
                 Ok(()) => Ok(SendPoll::Wait(element)),
-                Err(_) => Err(Refused { why: Refusal::Places, element }),
+                Err(_) => Err(Refused {
+                    why: Refusal::Places,
+                    element,
+                }),
             };
         }
         let was_empty = queue.len() == 0;
         if let Err(element) = memories.elements.add(&mut queue, element) {
-            return Err(Refused { why: Refusal::Cells, element });
+            return Err(Refused {
+                why: Refusal::Cells,
+                element,
+            });
         }
         record.queue = Some(queue);
         if !was_empty {
             write_at(&mut self.table, channel, record);
             return Ok(SendPoll::Sent(0));
         }
-        let named = name_all(&mut memories.entries, &mut record.receiving, &mut memories.woken);
+        let named = name_all(
+            &mut memories.entries,
+            &mut record.receiving,
+            &mut memories.woken,
+        );
         self.count = less(self.count, true);
         write_at(&mut self.table, channel, record);
         Ok(SendPoll::Sent(named))
     }
 
     // Polls the receiver of `channel`; who has to wait leaves `waker`.
-    pub fn receive_poll<T>(&mut self, memories: &mut Memories<T>, channel: usize, waker: u32) -> Result<ReceivePoll<T>, Refusal>
+    pub fn receive_poll<T>(
+        &mut self,
+        memories: &mut Memories<T>,
+        channel: usize,
+        waker: u32,
+    ) -> Result<ReceivePoll<T>, Refusal>
         ensures law { λ r. ⌜ Does (λ f m. receiveStep f m channel waker) (now (self .entry)) (seen (now (memories .entry))) (now (self .exit)) (seen (now (memories .exit))) r ⌝ }
+        ensures history { λ r. ⌜ Chronicles (receives channel waker) (λ f m. receiveStep f m channel waker) (now (self .entry)) (seen (now (memories .entry))) r ⌝ }
         ensures unfit { λ r. ⌜ Unfit (Bad Lengths) (now (self .entry)) (seen (now (memories .entry))) (now (self .exit)) (seen (now (memories .exit))) r ⌝ }
         ensures same { λ _. ⌜ Same (now (memories .entry)) (now (memories .exit)) ⌝ }
         ensures steady { λ _. ⌜ Steady (now (self .entry)) (seen (now (memories .entry))) (now (self .exit)) (seen (now (memories .exit))) ⌝ }
@@ -350,7 +402,10 @@ impl Channels {
             if record.senders == 0 {
                 return Ok(ReceivePoll::End);
             }
-            if memories.entries.add(&mut record.receiving, Entry { waker, channel }).is_err() {
+            if memories
+                .entries
+                .add(&mut record.receiving, Entry { waker, channel })
+                .is_err() {
                 return Err(Refusal::Places);
             }
             write_at(&mut self.table, channel, record);
@@ -366,13 +421,22 @@ impl Channels {
         if !was_shut {
             return Ok(ReceivePoll::Element(element, 0));
         }
-        let named = name_all(&mut memories.entries, &mut self.sending, &mut memories.woken);
+        let named = name_all(
+            &mut memories.entries,
+            &mut self.sending,
+            &mut memories.woken,
+        );
         Ok(ReceivePoll::Element(element, named))
     }
 
     // Closes one sender of `channel`; the last one names who waits to receive.
-    pub fn close_sender<T>(&mut self, memories: &mut Memories<T>, channel: usize) -> Result<usize, Refusal>
+    pub fn close_sender<T>(
+        &mut self,
+        memories: &mut Memories<T>,
+        channel: usize,
+    ) -> Result<usize, Refusal>
         ensures law { λ r. ⌜ Does (λ f m. closeSenderStep f m channel) (now (self .entry)) (seen (now (memories .entry))) (now (self .exit)) (seen (now (memories .exit))) r ⌝ }
+        ensures history { λ r. ⌜ Chronicles (closesSender channel) (λ f m. closeSenderStep f m channel) (now (self .entry)) (seen (now (memories .entry))) r ⌝ }
         ensures unfit { λ r. ⌜ Unfit (Bad Lengths) (now (self .entry)) (seen (now (memories .entry))) (now (self .exit)) (seen (now (memories .exit))) r ⌝ }
         ensures same { λ _. ⌜ Same (now (memories .entry)) (now (memories .exit)) ⌝ }
         ensures steady { λ _. ⌜ Steady (now (self .entry)) (seen (now (memories .entry))) (now (self .exit)) (seen (now (memories .exit))) ⌝ }
@@ -387,15 +451,24 @@ impl Channels {
             return Ok(0);
         }
         self.count = less(self.count, is_open(&record));
-        let named = name_all(&mut memories.entries, &mut record.receiving, &mut memories.woken);
+        let named = name_all(
+            &mut memories.entries,
+            &mut record.receiving,
+            &mut memories.woken,
+        );
         record.senders = 0;
         write_at(&mut self.table, channel, record);
         Ok(named)
     }
 
     // Closes the receiver of `channel`: what is queued is let go, and who waits at the gate for this channel is named.
-    pub fn close_receiver<T: Drop>(&mut self, memories: &mut Memories<T>, channel: usize) -> Result<usize, Refusal>
+    pub fn close_receiver<T: Drop>(
+        &mut self,
+        memories: &mut Memories<T>,
+        channel: usize,
+    ) -> Result<usize, Refusal>
         ensures law { λ r. ⌜ Does (λ f m. closeReceiverStep f m channel) (now (self .entry)) (seen (now (memories .entry))) (now (self .exit)) (seen (now (memories .exit))) r ⌝ }
+        ensures history { λ r. ⌜ Chronicles (closesReceiver channel) (λ f m. closeReceiverStep f m channel) (now (self .entry)) (seen (now (memories .entry))) r ⌝ }
         ensures unfit { λ r. ⌜ Unfit (Bad Lengths) (now (self .entry)) (seen (now (memories .entry))) (now (self .exit)) (seen (now (memories .exit))) r ⌝ }
         ensures same { λ _. ⌜ Same (now (memories .entry)) (now (memories .exit)) ⌝ }
         ensures steady { λ _. ⌜ Steady (now (self .entry)) (seen (now (memories .entry))) (now (self .exit)) (seen (now (memories .exit))) ⌝ }
@@ -406,7 +479,9 @@ impl Channels {
         };
         self.count = less(self.count, is_open(&record));
         discard(&mut memories.elements, &mut queue);
-        let mut gone = memories.entries.take_out(&mut self.sending, &OnChannel(channel));
+        let mut gone = memories
+            .entries
+            .take_out(&mut self.sending, &OnChannel(channel));
         let named = name_all(&mut memories.entries, &mut gone, &mut memories.woken);
         record.queue = None;
         write_at(&mut self.table, channel, record);

@@ -15,8 +15,9 @@ loop-channel-again c =
     let lt : i < length xs = omega arith in
     let e : tallied (drop i xs) ≡ cond (recordOpen (getD xs i shutRecord)) 1 0 + tallied (drop (i + 1) xs) = at-drop-more tallied xs i shutRecord lt in
     elim (c .if-is-open .came) [
-      then-is-open w ↦ (let b : _≡_ {A = ℕ} (cond (recordOpen (getD xs i shutRecord)) 1 0) 1 = rw (sym (c .is-open .ensures) ∙ w .if-is-open .taken) refl in let n = w .count-is in (omega arith, omega arith))
-      | else-is-open w ↦ (let b : _≡_ {A = ℕ} (cond (recordOpen (getD xs i shutRecord)) 1 0) 0 = rw (sym (c .is-open .ensures) ∙ w .if-is-open .left) refl in let n = w .count-is in (omega arith, omega arith)) ]
+      | then-is-open w ↦ (let b : _≡_ {A = ℕ} (cond (recordOpen (getD xs i shutRecord)) 1 0) 1 = rw (sym (c .is-open .ensures) ∙ w .if-is-open .taken) refl in let n = w .count-is in (omega arith, omega arith))
+      | else-is-open w ↦ (let b : _≡_ {A = ℕ} (cond (recordOpen (getD xs i shutRecord)) 1 0) 0 = rw (sym (c .is-open .ensures) ∙ w .if-is-open .left) refl in let n = w .count-is in (omega arith, omega arith))
+    ]
 
 pub returns : need.returns
 returns c =

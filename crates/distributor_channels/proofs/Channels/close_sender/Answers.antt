@@ -5,7 +5,10 @@ use Prim.Native.Nat.{_-_, _+_}
 use Rattle.std.proofs.shelf.Tests.{both-ways, not-true, not-false}
 use Rattle.std.proofs.shelf.Results.{err-from-errBy}
 use Rattle.distributor_channels.specs.Meaning.{bit}
+use Rattle.distributor_channels.specs.Steps.{closeSenderStep}
+use Rattle.distributor_channels.specs.Histories.{closesSender, closingSender}
 use Rattle.distributor_channels.specs.Calls.{seen, facts}
+use Rattle.distributor_channels.proofs.Chronicle.{chronicled}
 use Rattle.std.specs.declared.result.Result.the-variants.{Err}
 use Rattle.distributor_channels.proofs.Standing.{found-is}
 use Rattle.distributor_channels.proofs.Sending.{lengths-first}
@@ -16,22 +19,22 @@ pub returns-in-Break-record : need.returns-in-Break-record
 returns-in-Break-record g c =
     let me = c .args .self .now in let ms = seen (c .args .memories .now) in let k = c .args .channel in let why = c .in-Break-record .field-0 .0 in
     let p = err-from-errBy (c .from-residual .result) (c .from-residual .ensures .1) in
-    rw (p .1, p .2) (record { law = leave-unfound me ms k why (c .in-Break-record .ensures tt); unfit = λ f. (ap Err (lengths-first me ms k why (c .in-Break-record .ensures tt) f), refl, refl); same = search needs; steady = record { n = refl; places = refl; cells = refl; elements = refl; entries = refl; woken = refl } })
+    rw (p .1, p .2) (let l = leave-unfound me ms k why (c .in-Break-record .ensures tt) in record { law = l; history = chronicled (closesSender k) (λ f m. closeSenderStep f m k) (λ n v h m run f. closingSender run f k) _ _ _ _ _ l; unfit = λ f. (ap Err (lengths-first me ms k why (c .in-Break-record .ensures tt) f), refl, refl); same = search needs; steady = record { n = refl; places = refl; cells = refl; elements = refl; entries = refl; woken = refl } })
 
 pub returns-then-record-eq0 : need.returns-then-record-eq0
 returns-then-record-eq0 g c =
     let me = c .args .self .now in let ms = seen (c .args .memories .now) in let k = c .args .channel in
     let fd = found-is me (facts me ms .fit) k (c .in-Continue-record .record) (c .in-Continue-record .ensures tt) in
-    record { law = leave-shut me ms k (c .in-Continue-record .record) fd (c .if-record-eq0 .taken); unfit = λ f. absurd (both-ways _ f (fd .fit)); same = search needs; steady = record { n = refl; places = refl; cells = refl; elements = search needs; entries = search needs; woken = search needs } }
+    let l = leave-shut me ms k (c .in-Continue-record .record) fd (c .if-record-eq0 .taken) in record { law = l; history = chronicled (closesSender k) (λ f m. closeSenderStep f m k) (λ n v h m run f. closingSender run f k) _ _ _ _ _ l; unfit = λ f. absurd (both-ways _ f (fd .fit)); same = search needs; steady = record { n = refl; places = refl; cells = refl; elements = search needs; entries = search needs; woken = search needs } }
 
 pub returns-then-record-gt1 : need.returns-then-record-gt1
 returns-then-record-gt1 g c =
     let me = c .args .self .now in let ms = seen (c .args .memories .now) in let k = c .args .channel in
     let fd = found-is me (facts me ms .fit) k (c .in-Continue-record .record) (c .in-Continue-record .ensures tt) in
-    record { law = leave-fewer me ms k (c .in-Continue-record .record) fd (c .if-record-eq0 .left) (c .if-record-gt1 .taken) _ (c .fewer .ensures) _ (c .write-at .ensures); unfit = λ f. absurd (both-ways _ f (fd .fit)); same = search needs; steady = record { n = refl; places = refl; cells = refl; elements = search needs; entries = search needs; woken = search needs } }
+    let l = leave-fewer me ms k (c .in-Continue-record .record) fd (c .if-record-eq0 .left) (c .if-record-gt1 .taken) _ (c .fewer .ensures) _ (c .write-at .ensures) in record { law = l; history = chronicled (closesSender k) (λ f m. closeSenderStep f m k) (λ n v h m run f. closingSender run f k) _ _ _ _ _ l; unfit = λ f. absurd (both-ways _ f (fd .fit)); same = search needs; steady = record { n = refl; places = refl; cells = refl; elements = search needs; entries = search needs; woken = search needs } }
 
 pub returns : need.returns
 returns g c =
     let me = c .args .self .now in let ms = seen (c .args .memories .now) in let k = c .args .channel in
     let fd = found-is me (facts me ms .fit) k (c .in-Continue-record .record) (c .in-Continue-record .ensures tt) in
-    record { law = leave-last me ms k (c .in-Continue-record .record) fd (c .if-record-eq0 .left) (c .if-record-gt1 .left) _ _ _ _ _ (c .name-all-named .ensures .law) (c .less-self .ensures ∙ ap (λ b. me .count - bit b) (c .is-open .ensures)) _ (c .write-at-2 .ensures); unfit = λ f. absurd (both-ways _ f (fd .fit)); same = search needs; steady = record { n = refl; places = refl; cells = refl; elements = search needs; entries = search needs; woken = search needs } }
+    let l = leave-last me ms k (c .in-Continue-record .record) fd (c .if-record-eq0 .left) (c .if-record-gt1 .left) _ _ _ _ _ (c .name-all-named .ensures .law) (c .less-self .ensures ∙ ap (λ b. me .count - bit b) (c .is-open .ensures)) _ (c .write-at-2 .ensures) in record { law = l; history = chronicled (closesSender k) (λ f m. closeSenderStep f m k) (λ n v h m run f. closingSender run f k) _ _ _ _ _ l; unfit = λ f. absurd (both-ways _ f (fd .fit)); same = search needs; steady = record { n = refl; places = refl; cells = refl; elements = search needs; entries = search needs; woken = search needs } }
