@@ -15,10 +15,11 @@ ghost use mathlib.Core.Bool.{Bool};
 ghost use mathlib.Core.List.{_∷_};
 ghost use mathlib.Core.Path.{_≡_};
 ghost use Rattle.bank.specs.Banks.{view, mem, size, Makes, Counts, Measures, Adds, Takes, ReadsOldest, ReadsNewest, Rewrites, Moves, TakesOut};
-ghost use Rattle.bank.specs.Cells.{empty, lastOr, firstOr, linkable, Relinked, Filled, Emptied, Swapped, Safe, Looked};
+ghost use Rattle.bank.specs.Cells.{cell, empty, lastOr, firstOr, linkable, Relinked, Filled, Emptied, Swapped, Safe, Looked};
 ghost use Rattle.bank.specs.Lists.{oldest as oldestOf, newest as newestOf, rest, older, push};
 ghost use Rattle.bank.specs.Turning.{Turns, Sifts};
 ghost use Rattle.std.specs.Options.{mapped};
+ghost use Rattle.std.specs.declared.option.Option.the-variants.{None};
 use std::mem;
 
 // One cell of the memory: what it holds, and the cell behind it in its chain.
