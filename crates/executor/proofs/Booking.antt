@@ -30,7 +30,7 @@ use Rattle.distributor_channels.proofs.LawsHold.{laws, run-long}
 use Rattle.distributor_channels.proofs.Ways as way
 use Rattle.executor.specs.declared.Notice.{Notice}
 use Rattle.executor.specs.declared.Delivery.{Delivery}
-use Rattle.executor.specs.Books.{ofFeed, toRoom, booked, Sound, refusedAs, outcomeOf, advance, givenOf, sentBy, Next, Stands, Drained, Emptied, Delivered}
+use Rattle.executor.specs.Books.{ofFeed, toRoom, booked, Sound, refusedAs, outcomeOf, advance, givenOf, sentBy, Next, Stands, Drained, Emptied, Delivered, Onward}
 
 -- a notice of another feed is passed over
 pub passed : (notices : List Notice) (f i : ℕ) (d : Notice) → i < length notices → (getD notices i d .feed ≡ f → ⊥) → ofFeed f (take (i + 1) notices) ≡ ofFeed f (take i notices)
@@ -245,3 +245,10 @@ pub delivered : (rooms feeds : ℕ) (notices : List Notice) (f f′ : Floor) →
     (n v : ℕ) (sent : List Notice) → Stands n v notices sent f → Delivered rooms feeds notices (vec-items (f′ .book))
 delivered rooms feeds notices f f′ e z n v sent s =
     (sent, (all-sent n v notices sent (f .channels) (seen (f .memories)) (vec-items (f .book)) (f .cursors) s feeds z, e .rooms n v sent s .1))
+
+-- onward by no call, and by one stretch after another
+pub onward-none : (notices : List Notice) (f : Floor) → Onward notices f f
+onward-none notices f n v sent s = (sent, s)
+
+pub onward-more : (notices : List Notice) (f f′ f″ : Floor) → Onward notices f f′ → Onward notices f′ f″ → Onward notices f f″
+onward-more notices f f′ f″ a b n v sent s = let x = a n v sent s in b n v (x .0) (x .1)

@@ -118,3 +118,7 @@ pub record Emptied (i : ℕ) (notices : List Notice) (cs : List ℕ) (f f′ : F
 -- Everything was delivered: in some order that keeps each feed's own, the notices of the v feeds are what the book has, room by room, for n rooms.
 abbrev pub Delivered : ℕ → ℕ → List Notice → List Delivery → Type 0
 Delivered n v notices book = (sent : List Notice) × (((f : ℕ) → f < v → ofFeed f sent ≡ ofFeed f notices) × ((k : ℕ) → k < n → booked k book ≡ toRoom k sent))
+
+-- from one floor to the next by calls alone: what stood still stands, with some more notices accepted
+abbrev pub Onward : List Notice → Floor → Floor → Type 0
+Onward notices f f′ = (n v : ℕ) (sent : List Notice) → Stands n v notices sent f → (sent′ : List Notice) × Stands n v notices sent′ f′

@@ -16,6 +16,8 @@ ghost use Rattle.distributor_channels.specs.Histories.{ends};
 ghost use Rattle.executor.specs.Books.{Stands, sentBy, refusedAs, outcomeOf, advance, givenOf, Next, AtEnd, Drained, Delivered};
 ghost use Rattle.std.specs.Of.Vec.{vec-items};
 ghost use Rattle.std.specs.Vec.{made};
+pub mod run;
+
 use bank::Bank;
 use bank::Cell;
 use distributor_channels::Channels;
@@ -205,10 +207,10 @@ impl<'a> Floor<'a> {
     }
 
     // Polls a room, and books what it is given.
-    pub fn receive_next(&mut self, room: usize, waker: u32) -> Result<Result<ReceivePoll<u64>, Refusal>, AllocError>
+    pub fn receive_next(&mut self, room: usize) -> Result<Result<ReceivePoll<u64>, Refusal>, AllocError>
         ensures { λ r. ⌜ made r (λ _. (n v : ℕ) (notices sent : List Notice) → Stands n v notices sent (now (self .entry)) → Stands n v notices sent (now (self .exit))) ⌝ }
     {
-        let polled = self.channels.receive_poll(&mut self.memories, room, waker);
+        let polled = self.channels.receive_poll(&mut self.memories, room, waker_of(room.saturating_add(32)));
         let Some(id) = given(&polled) else {
             return Ok(polled);
         };
@@ -251,6 +253,11 @@ impl<'a> Floor<'a> {
         ensures { λ r. ⌜ now r ≡ vec-items (now (self .entry) .book) ⌝ }
     {
         self.book.as_slice()
+    }
+
+    // The task that was named at this place of the woken list.
+    pub fn woken(&self, i: usize) -> usize {
+        if i < self.memories.woken.list.len() { self.memories.woken.list[i] as usize } else { usize::MAX }
     }
 
     // Closes one sender of a room.
