@@ -57,7 +57,7 @@ module _ {T : Type 0} where
     pub did : linkable (length cs) p q (lastOr q (p .head)) ≡ true → (r ≡ true) × (p′ ≡ shorter cs p) × (q′ ≡ longer q (p .head)) × (ds ≡ linked cs (lastOr q (p .head)) (p .head))
     pub refused : linkable (length cs) p q (lastOr q (p .head)) ≡ false → (r ≡ false) × (p′ ≡ p) × (q′ ≡ q) × (ds ≡ cs)
 
-  -- x went into the cell i, if that held nothing; else it came back
+  -- x went into the cell i, if that held nothing
   pub record Filled (cs : List (Cell T)) (i : ℕ) (x : T) (ds : List (Cell T)) (r : Result (Unit {0}) T) : Type 0 where
     pub did : i < length cs → at cs i .item ≡ None → (r ≡ Ok tt) × (ds ≡ filled cs i (Some x))
 
@@ -65,7 +65,7 @@ module _ {T : Type 0} where
   pub record Emptied (cs : List (Cell T)) (i : ℕ) (ds : List (Cell T)) (r : Option T) : Type 0 where
     pub did : i < length cs → (r ≡ at cs i .item) × (ds ≡ filled cs i None)
 
-  -- x went into the cell i in the place of what was there, which came out; where nothing was there, x came back
+  -- x went into the cell i in the place of what was there, which came out
   pub record Swapped (cs : List (Cell T)) (i : ℕ) (x : T) (ds : List (Cell T)) (r : Result T T) : Type 0 where
     pub did : i < length cs → (y : T) → at cs i .item ≡ Some y → (r ≡ Ok y) × (ds ≡ filled cs i (Some x))
 

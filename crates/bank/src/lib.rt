@@ -341,7 +341,7 @@ impl<'a, T> Bank<'a, T> {
         swap(self.cells, q.tail, x)
     }
 
-    // Moves the oldest element of `from` to the back of `to`; false where there is none.
+    // Moves the oldest element of `from` to the back of `to`, another queue; false where there is none.
     pub fn pass(&mut self, from: &mut Queue, to: &mut Queue) -> bool
         ensures law { λ r. ⌜ Moves (view (now (self .entry))) (now (from .entry)) (now (to .entry)) (view (now (self .exit))) (now (from .exit)) (now (to .exit)) r ⌝ }
         ensures same { λ _. ⌜ name (now (self .exit) .cells) ≡ name (now (self .entry) .cells) ⌝ }

@@ -117,6 +117,6 @@ module _ {T : Type 0} where
 pub laws : {T : Type 0} (n v : ℕ) (h : List (Event T)) (m : Meaning T) → Run n v h m → Laws n v h m
 laws n v h m r = holding-laws n v h m (over-run n v (Holding n v) (holding-new n v) (holding-more n v) h m r)
 
--- a run opens and closes no channel
+-- a run leaves the number of channels as it was
 pub run-long : {T : Type 0} (n v : ℕ) (h : List (Event T)) (m : Meaning T) → Run n v h m → length (m .chans) ≡ n
 run-long n v h m r = over-run n v (Holding n v) (holding-new n v) (holding-more n v) h m r .long

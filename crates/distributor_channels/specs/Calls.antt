@@ -15,13 +15,15 @@ use Rattle.std.specs.declared.result.Result.the-variants.{Ok, Err}
 use Rattle.refusal.specs.declared.Refusal.{Refusal}
 use Rattle.refusal.specs.declared.Refusal.the-variants.{Lengths, Range}
 use Rattle.bank.specs.declared.Queue.{Queue}
-use Rattle.bank.specs.Cells.{empty}
+use Rattle.bank.specs.Cells.{at, empty}
 use Rattle.bank.specs.Banks.{Mem, view, size, freed, Keeps}
 use Rattle.distributor_channels.specs.declared.Entry.{Entry}
 use Rattle.distributor_channels.specs.declared.Channel.{Channel}
 use Rattle.distributor_channels.specs.declared.Channels.{Channels}
 use Rattle.distributor_channels.specs.declared.Memories.{Memories}
 use Rattle.distributor_channels.specs.Meaning.{Chan, Meaning, Facts, Out, onto, openCount, opened}
+use Rattle.distributor_channels.specs.declared.SendPoll.the-variants.{Sent, Wait, Closed}
+use Rattle.distributor_channels.specs.Steps.{SendAnswer}
 use Rattle.distributor_channels.specs.Histories.{Event, Run, Laws}
 
 -- the records in use
@@ -122,6 +124,13 @@ module _ {T : Type 0} where
   -- where the lengths are wrong, whatever the memories hold: this answer, and no change
   abbrev pub Unfit : {A : Type 0} → A → Channels → Mems T → Channels → Mems T → A → Type 0
   Unfit a c ms c′ ms′ r = facts c ms .fit ≡ false → (r ≡ a) × (c′ ≡ c) × (ms′ ≡ ms)
+
+  -- whatever the memories hold: the element that was passed lies in a message cell, or it came back
+  abbrev pub Kept : Mems T → T → SendAnswer T → Type 0
+  Kept ms x (Ok (Sent _)) = (i : ℕ) × (at (ms .elements .cells) i .item ≡ Some x)
+  Kept ms x (Ok (Wait y)) = y ≡ x
+  Kept ms x (Ok (Closed y)) = y ≡ x
+  Kept ms x (Err r) = r .element ≡ x
 
   -- the loans are the same
   abbrev pub Same : Memories T → Memories T → Type 0

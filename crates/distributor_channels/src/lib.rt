@@ -7,8 +7,8 @@
 //                       | | ---> [x]     ----> o  channel 2
 //
 // A queue has no limit of its own. The gate is open while some channel with an open receiver and an open sender has an
-// empty queue, so that a receiver that waits is never starved by queues that grow elsewhere; once every such queue holds
-// something, senders wait until a queue runs empty.
+// empty queue: senders may go on while some receiver has nothing. Once every such queue holds something, senders wait until
+// one runs empty.
 //
 // Elements and waiting entries lie in two memories that are handed in with every call. Who has to wait leaves a waker, a
 // number; a call writes the wakers of those who may go on to the front of the woken list and gives their number.
@@ -22,7 +22,7 @@ ghost use mathlib.Core.Bool.{cond};
 ghost use mathlib.Core.Path.{_≡_};
 ghost use Prim.Native.Nat.{_+_, _-_, _<_};
 ghost use Rattle.bank.specs.Banks.{view, size};
-ghost use Rattle.distributor_channels.specs.Calls.{records, shutRecord, recordOpen, tallied, fits, found, seen, facts, Does, Chronicles, Unfit, Same, Steady, Opens, Recounts, within};
+ghost use Rattle.distributor_channels.specs.Calls.{records, shutRecord, recordOpen, tallied, fits, found, seen, facts, Does, Chronicles, Kept, Unfit, Same, Steady, Opens, Recounts, within};
 ghost use Rattle.distributor_channels.specs.Histories.{sends, receives, closesSender, closesReceiver};
 ghost use Rattle.distributor_channels.specs.Meaning.{bit, on};
 ghost use Rattle.distributor_channels.specs.Naming.{NamesOne, Names, Empties};
@@ -35,7 +35,7 @@ use bank::Queue;
 use bank::Test;
 use refusal::Refusal;
 
-// Limits. Two bytes could number the message cells, and twelve bits the waiting places; 32 is the bound on feeds and rooms.
+// Limits. Two bytes number the message cells, and twelve bits the waiting places; 32 channels are a table of fixed length.
 const MOST_CELLS: usize = 65535;
 
 const MOST_PLACES: usize = 4096;
@@ -291,7 +291,8 @@ impl Channels {
         })
     }
 
-    // The open count by its definition: how many channels have an open receiver, an open sender and an empty queue.
+    // The open count by its definition: how many channels have an open receiver, an open sender and an empty queue. The
+    // memories are not read; they are there for the contract to speak of.
     pub fn recount<T>(&self, memories: &Memories<T>) -> usize
         ensures { λ r. ⌜ Recounts (now (self .entry)) (seen (now (memories .entry))) r ⌝ }
     {
@@ -331,6 +332,7 @@ impl Channels {
     ) -> Result<SendPoll<T>, Refused<T>>
         ensures law { λ r. ⌜ Does (λ f m. sendStep f m channel waker element) (now (self .entry)) (seen (now (memories .entry))) (now (self .exit)) (seen (now (memories .exit))) r ⌝ }
         ensures history { λ r. ⌜ Chronicles (sends channel waker element) (λ f m. sendStep f m channel waker element) (now (self .entry)) (seen (now (memories .entry))) r ⌝ }
+        ensures kept { λ r. ⌜ Kept (seen (now (memories .exit))) element r ⌝ }
         ensures unfit { λ r. ⌜ Unfit (back Lengths element) (now (self .entry)) (seen (now (memories .entry))) (now (self .exit)) (seen (now (memories .exit))) r ⌝ }
         ensures same { λ _. ⌜ Same (now (memories .entry)) (now (memories .exit)) ⌝ }
         ensures steady { λ _. ⌜ Steady (now (self .entry)) (seen (now (memories .entry))) (now (self .exit)) (seen (now (memories .exit))) ⌝ }

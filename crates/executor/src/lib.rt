@@ -179,7 +179,7 @@ fn is_end(polled: &Result<ReceivePoll<u64>, Refusal>) -> bool
 
 impl<'a> Floor<'a> {
     // A floor over these memories: so many rooms, each with a sender for each feed.
-    pub fn open(heap: Global, elements: &'a mut [Cell<u64>], entries: &'a mut [Cell<Entry>], woken: &'a mut [u32], rooms: usize, feeds: u32) -> Result<Floor<'a>, Refusal>
+    fn open(heap: Global, elements: &'a mut [Cell<u64>], entries: &'a mut [Cell<Entry>], woken: &'a mut [u32], rooms: usize, feeds: u32) -> Result<Floor<'a>, Refusal>
         ensures { λ r. ⌜ made r (λ f. (notices : List Notice) → Stands rooms feeds notices [] f) ⌝ }
     {
         let memories = Memories { elements: Bank::new(elements), entries: Bank::new(entries), woken: Woken { list: woken } };
@@ -188,7 +188,7 @@ impl<'a> Floor<'a> {
     }
 
     // Polls the send of the feed's next notice.
-    pub fn send_next(&mut self, notices: &[Notice], feed: usize) -> Result<Sending, Refusal>
+    fn send_next(&mut self, notices: &[Notice], feed: usize) -> Result<Sending, Refusal>
         ensures { λ r. ⌜ ((n v : ℕ) (sent : List Notice) → Stands n v (now (notices .entry)) sent (now (self .entry)) → Stands n v (now (notices .entry)) (sentBy r sent) (now (self .exit))) ⌝ }
     {
         if feed >= count(&self.cursors) {
@@ -207,7 +207,7 @@ impl<'a> Floor<'a> {
     }
 
     // Polls a room, and books what it is given.
-    pub fn receive_next(&mut self, room: usize) -> Result<Result<ReceivePoll<u64>, Refusal>, AllocError>
+    fn receive_next(&mut self, room: usize) -> Result<Result<ReceivePoll<u64>, Refusal>, AllocError>
         ensures { λ r. ⌜ made r (λ _. (n v : ℕ) (notices sent : List Notice) → Stands n v notices sent (now (self .entry)) → Stands n v notices sent (now (self .exit))) ⌝ }
     {
         let polled = self.channels.receive_poll(&mut self.memories, room, waker_of(room.saturating_add(32)));
@@ -234,7 +234,7 @@ impl<'a> Floor<'a> {
     }
 
     // Was everything delivered: has each feed come to its end, and is each room told the end?
-    pub fn settle(&mut self, notices: &[Notice], rooms: usize, feeds: usize) -> Result<bool, AllocError>
+    fn settle(&mut self, notices: &[Notice], rooms: usize, feeds: usize) -> Result<bool, AllocError>
         ensures { λ r. ⌜ made r (λ b. b ≡ true → ((n v : ℕ) (sent : List Notice) → Stands n v (now (notices .entry)) sent (now (self .entry)) → Delivered rooms feeds (now (notices .entry)) (vec-items (now (self .exit) .book)))) ⌝ }
     {
         if !all_at_end(&self.cursors, feeds, notices.len()) {
@@ -256,14 +256,48 @@ impl<'a> Floor<'a> {
     }
 
     // The task that was named at this place of the woken list.
-    pub fn woken(&self, i: usize) -> usize {
+    fn woken(&self, i: usize) -> usize {
         if i < self.memories.woken.list.len() { self.memories.woken.list[i] as usize } else { usize::MAX }
     }
 
     // Closes one sender of a room.
-    pub fn leave(&mut self, room: usize) -> Result<usize, Refusal>
+    fn leave(&mut self, room: usize) -> Result<usize, Refusal>
         ensures { λ _. ⌜ ((n v : ℕ) (notices sent : List Notice) → Stands n v notices sent (now (self .entry)) → Stands n v notices sent (now (self .exit))) ⌝ }
     {
         self.channels.close_sender(&mut self.memories, room)
+    }
+}
+
+#[cfg(test)]
+mod tests {
+    use super::*;
+    use crate::run::deliver;
+    use std::test::*;
+
+    // Two feeds and two rooms over two message cells: the gate shuts, the memory fills, and everything is delivered.
+    #[test]
+    fn delivers(rt: LibcRuntime) -> Result<(), Fail> {
+        let mut elements = [Cell::new(), Cell::new()];
+        let mut entries = [Cell::new(), Cell::new(), Cell::new(), Cell::new()];
+        let mut woken = [0u32; 4];
+        let notices = [
+            Notice { feed: 0, room: 0, id: 10 },
+            Notice { feed: 0, room: 1, id: 11 },
+            Notice { feed: 1, room: 0, id: 20 },
+            Notice { feed: 0, room: 0, id: 12 },
+        ];
+        let Ok(outcome) = deliver(rt.alloc(), &mut elements, &mut entries, &mut woken, &notices, 2, 2, &rt) else {
+            return Err(Fail::new("stopped"));
+        };
+        check(outcome.all)?;
+        let book = outcome.floor.deliveries();
+        check(book.len() == 4)?;
+        let mut first = 0u64;
+        for delivery in book {
+            if delivery.room == 0 {
+                first = first.wrapping_mul(100).wrapping_add(delivery.id);
+            }
+        }
+        check_eq(first, 101220)
     }
 }

@@ -68,14 +68,14 @@ impl fmt::Display for Task as TaskDisplay {
 
 // Who may be polled, and which feeds found the memory full.
 #[derive(Clone, Copy)]
-pub struct Ready {
+struct Ready {
     tasks: [bool; 64],
     full: [bool; 32],
 }
 
 impl Ready {
     // All feeds and rooms may be polled.
-    pub fn new(feeds: usize, rooms: usize) -> Ready {
+    fn new(feeds: usize, rooms: usize) -> Ready {
         let mut tasks = [false; 64];
         for i in 0..TASKS {
             tasks[i] = i < feeds || (FIRST_ROOM <= i && i < FIRST_ROOM.saturating_add(rooms));
@@ -218,7 +218,7 @@ fn turn<R: Print>(floor: &mut Floor, ready: &mut Ready, notices: &[Notice], task
 }
 
 // Polls whoever may be polled until nobody may.
-pub fn run<R: Print>(floor: &mut Floor, notices: &[Notice], feeds: usize, rooms: usize, rt: &R) -> Result<(), Halt>
+fn run<R: Print>(floor: &mut Floor, notices: &[Notice], feeds: usize, rooms: usize, rt: &R) -> Result<(), Halt>
     ensures { λ r. ⌜ made r (λ _. Onward (now (notices .entry)) (now (floor .entry)) (now (floor .exit))) ⌝ }
 {
     let mut ready = Ready::new(feeds, rooms);
