@@ -361,3 +361,6 @@ impl<'a, T> Bank<'a, T> {
         out
     }
 }
+
+#[cfg(test)]
+mod tests;

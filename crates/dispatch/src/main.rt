@@ -6,8 +6,8 @@ use bank::Cell;
 use distributor_channels::Entry;
 use executor::Delivery;
 use executor::Notice;
-use executor::run::deliver;
 use executor::run::Halt;
+use executor::run::deliver;
 use std::alloc::AllocError;
 use std::alloc::Global;
 use std::error::AnyError;
@@ -17,6 +17,7 @@ use std::io::BufReader;
 
 // The memories are small, so that the gate shuts and cells run out.
 const CELLS: usize = 8;
+
 const PLACES: usize = 64;
 
 // What one line is.
@@ -62,7 +63,11 @@ fn read(line: &str) -> Line {
     if feed >= 32 || room >= 32 || words.next().is_some() {
         return Line::Bad;
     }
-    Line::Notice(Notice { feed: feed as usize, room: room as usize, id })
+    Line::Notice(Notice {
+        feed: feed as usize,
+        room: room as usize,
+        id,
+    })
 }
 
 impl Intake {
@@ -83,7 +88,11 @@ impl Intake {
 
 // Reads all lines; a line that is no text is no notice either.
 fn read_all(rt: &LibcRuntime) -> Result<Intake, AnyError> {
-    let mut all = Intake { notices: Vec::new(rt.alloc()), feeds: 0, rooms: 0 };
+    let mut all = Intake {
+        notices: Vec::new(rt.alloc()),
+        feeds: 0,
+        rooms: 0,
+    };
     let mut at: u64 = 0;
     for line in BufReader::new(rt.stdin()).lines(rt.alloc()) {
         at = at.saturating_add(1);
@@ -149,7 +158,16 @@ fn dispatch(rt: &LibcRuntime) -> Result<(), AnyError> {
     let mut elements: Vec<Cell<u64>> = cells(rt.alloc(), CELLS)?;
     let mut entries: Vec<Cell<Entry>> = cells(rt.alloc(), PLACES)?;
     let mut woken = vec![in rt.alloc(); 0u32; PLACES]?;
-    let delivered = deliver(rt.alloc(), elements.as_mut_slice(), entries.as_mut_slice(), woken.as_mut_slice(), all.notices.as_slice(), all.feeds, all.rooms, rt);
+    let delivered = deliver(
+        rt.alloc(),
+        elements.as_mut_slice(),
+        entries.as_mut_slice(),
+        woken.as_mut_slice(),
+        all.notices.as_slice(),
+        all.feeds,
+        all.rooms,
+        rt,
+    );
     let outcome = match delivered {
         Ok(outcome) => outcome,
         Err(halt) => return Err(reason(halt)),

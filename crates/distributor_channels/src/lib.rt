@@ -497,3 +497,6 @@ pub fn runs_stand() -> u8
 {
     0
 }
+
+#[cfg(test)]
+mod tests;

@@ -80,7 +80,8 @@ module _ (n v : ℕ) (notices sent : List Notice) (c : Channels) (ms : Mems ℕ)
           open-ends = λ k. rw (open-still k ws) (s .open-ends k);
           accepts = λ k. ap (λ (u : List ℕ). u ++ acceptedBy k (call r ws)) (s .accepts k) ∙ ea k ws;
           gives = λ k. ap (λ (u : List ℕ). u ++ givenBy k (call r ws)) (s .gives k) ∙ eg k ws;
-          order = eo }
+          order = eo;
+        }
 
   -- a sender leaves
   pub sound-left : (k : ℕ) (c′ : Channels) (ms′ : Mems ℕ) (r : CloseAnswer) → Does (λ f m. closeSenderStep f m k) c ms c′ ms′ r → Chronicles (closesSender k) (λ f m. closeSenderStep f m k) c ms r →
@@ -133,11 +134,11 @@ module _ (n v : ℕ) (notices sent : List Notice) (c : Channels) (ms : Mems ℕ)
           let own : note .feed ≡ feed = ap (λ (u : Notice). u .feed) en ∙ next .here note h in
           ⊎-elim
           (λ (e : f ≡ feed).
-            let t : eqb (note .feed) feed ≡ true = eq-eqb _ _ own in
-            rw (e, getD-set-same cursors feed p 0 inside, ep, kept-by-append, kept-by-more (λ (u : Notice). eqb (u .feed) feed) notices i note h, ← en, t, s .order feed, next .none) refl)
+          let t : eqb (note .feed) feed ≡ true = eq-eqb _ _ own in
+          rw (e, getD-set-same cursors feed p 0 inside, ep, kept-by-append, kept-by-more (λ (u : Notice). eqb (u .feed) feed) notices i note h, ← en, t, s .order feed, next .none) refl)
           (λ (ne : f ≡ feed → ⊥).
-            let t : eqb (note .feed) f ≡ false = ne-eqb _ _ (λ e. ne (sym e ∙ own)) in
-            rw (getD-set-other cursors feed f p 0 ne, kept-by-append, t) (append-nil (ofFeed f sent) ∙ s .order f))
+          let t : eqb (note .feed) f ≡ false = ne-eqb _ _ (λ e. ne (sym e ∙ own)) in
+          rw (getD-set-other cursors feed f p 0 ne, kept-by-append, t) (append-nil (ofFeed f sent) ∙ s .order f))
           (cases-eq f feed)
 
       module _ (w : ℕ) (c′ : Channels) (ms′ : Mems ℕ) where
@@ -218,8 +219,16 @@ module _ (n v : ℕ) (notices sent : List Notice) (c : Channels) (ms : Mems ℕ)
 -- just opened: nothing was sent or delivered
 pub sound-new : (n v : ℕ) (notices : List Notice) (c : Channels) (ms : Mems ℕ) (o : Others ℕ) (cursors : List ℕ) → Represents c ms o (opened n v) → ((f : ℕ) → getD cursors f 0 ≡ 0) → Sound n v notices [] c ms [] cursors
 sound-new n v notices c ms o cursors rep z = record {
-    history = []; others = o; meaning = opened n v; represents = rep; run = opening; open-ends = λ _. refl; accepts = λ _. refl; gives = λ _. refl;
-    order = λ f. rw (z f) refl }
+  history = [];
+  others = o;
+  meaning = opened n v;
+  represents = rep;
+  run = opening;
+  open-ends = λ _. refl;
+  accepts = λ _. refl;
+  gives = λ _. refl;
+  order = λ f. rw (z f) refl;
+}
 
 pub zeros : (n f : ℕ) → _≡_ {A = ℕ} (getD (replicate n 0) f 0) 0
 zeros zero f = refl
@@ -233,12 +242,13 @@ emptied-none notices f = record { places = refl; rooms = λ n v sent s. (s, λ k
 -- one room more was told the end
 pub emptied-more : (i : ℕ) (notices : List Notice) (cs : List ℕ) (f f′ f″ : Floor) (b : Bool) → Emptied i notices cs f f′ → Drained b i f′ f″ → f″ .cursors ≡ f′ .cursors → b ≡ true → Emptied (i + 1) notices cs f f″
 emptied-more i notices cs f f′ f″ b e d ec t = record {
-    places = ec ∙ e .places;
-    rooms = λ n v sent s.
+  places = ec ∙ e .places;
+  rooms = λ n v sent s.
       let a = e .rooms n v sent s in
       let g = d n v notices sent (a .0) in
       let x = g .1 t in
-      (g .0, λ k h. ⊎-elim (λ (z : k ≡ i). rw z (x .1)) (λ (z : k ≡ i → ⊥). ap (booked k) (x .0) ∙ a .1 k (omega arith)) (cases-eq k i)) }
+      (g .0, λ k h. ⊎-elim (λ (z : k ≡ i). rw z (x .1)) (λ (z : k ≡ i → ⊥). ap (booked k) (x .0) ∙ a .1 k (omega arith)) (cases-eq k i));
+}
 
 -- all rooms were told the end, and all feeds are at theirs
 pub delivered : (rooms feeds : ℕ) (notices : List Notice) (f f′ : Floor) → Emptied rooms notices (f .cursors) f f′ → ((j : ℕ) → j < feeds → length notices ≤ getD (f .cursors) j 0) →

@@ -16,6 +16,7 @@ ghost use Rattle.distributor_channels.specs.Histories.{ends};
 ghost use Rattle.executor.specs.Books.{Stands, sentBy, refusedAs, outcomeOf, advance, givenOf, Next, AtEnd, Drained, Delivered};
 ghost use Rattle.std.specs.Of.Vec.{vec-items};
 ghost use Rattle.std.specs.Vec.{made};
+
 pub mod run;
 
 use bank::Bank;
@@ -86,7 +87,11 @@ fn next_of(notices: &[Notice], feed: usize, from: usize) -> usize
 fn cursor_at(cursors: &[usize], feed: usize) -> usize
     ensures { λ r. ⌜ r ≡ getD (now (cursors .entry)) feed 0 ⌝ }
 {
-    if feed < cursors.len() { cursors[feed] } else { 0 }
+    if feed < cursors.len() {
+        cursors[feed]
+    } else {
+        0
+    }
 }
 
 // How many feeds have a place.
@@ -179,12 +184,28 @@ fn is_end(polled: &Result<ReceivePoll<u64>, Refusal>) -> bool
 
 impl<'a> Floor<'a> {
     // A floor over these memories: so many rooms, each with a sender for each feed.
-    fn open(heap: Global, elements: &'a mut [Cell<u64>], entries: &'a mut [Cell<Entry>], woken: &'a mut [u32], rooms: usize, feeds: u32) -> Result<Floor<'a>, Refusal>
+    fn open(
+        heap: Global,
+        elements: &'a mut [Cell<u64>],
+        entries: &'a mut [Cell<Entry>],
+        woken: &'a mut [u32],
+        rooms: usize,
+        feeds: u32,
+    ) -> Result<Floor<'a>, Refusal>
         ensures { λ r. ⌜ made r (λ f. (notices : List Notice) → Stands rooms feeds notices [] f) ⌝ }
     {
-        let memories = Memories { elements: Bank::new(elements), entries: Bank::new(entries), woken: Woken { list: woken } };
+        let memories = Memories {
+            elements: Bank::new(elements),
+            entries: Bank::new(entries),
+            woken: Woken { list: woken },
+        };
         let channels = Channels::open(&memories, rooms, feeds)?;
-        Ok(Floor { channels, memories, book: Vec::new(heap), cursors: [0; 32] })
+        Ok(Floor {
+            channels,
+            memories,
+            book: Vec::new(heap),
+            cursors: [0; 32],
+        })
     }
 
     // Polls the send of the feed's next notice.
@@ -200,7 +221,8 @@ impl<'a> Floor<'a> {
             return Ok(Sending::Done);
         }
         let notice = notices[i];
-        let polled = self.channels.send_poll(&mut self.memories, notice.room, waker_of(feed), notice.id);
+        let polled = self.channels
+            .send_poll(&mut self.memories, notice.room, waker_of(feed), notice.id);
         let sending = outcome(notice, polled);
         write_cursor(&mut self.cursors, feed, i + step_of(&sending));
         sending
@@ -210,7 +232,11 @@ impl<'a> Floor<'a> {
     fn receive_next(&mut self, room: usize) -> Result<Result<ReceivePoll<u64>, Refusal>, AllocError>
         ensures { λ r. ⌜ made r (λ _. (n v : ℕ) (notices sent : List Notice) → Stands n v notices sent (now (self .entry)) → Stands n v notices sent (now (self .exit))) ⌝ }
     {
-        let polled = self.channels.receive_poll(&mut self.memories, room, waker_of(room.saturating_add(32)));
+        let polled = self.channels.receive_poll(
+            &mut self.memories,
+            room,
+            waker_of(room.saturating_add(32)),
+        );
         let Some(id) = given(&polled) else {
             return Ok(polled);
         };
@@ -257,7 +283,11 @@ impl<'a> Floor<'a> {
 
     // The task that was named at this place of the woken list.
     fn woken(&self, i: usize) -> usize {
-        if i < self.memories.woken.list.len() { self.memories.woken.list[i] as usize } else { usize::MAX }
+        if i < self.memories.woken.list.len() {
+            self.memories.woken.list[i] as usize
+        } else {
+            usize::MAX
+        }
     }
 
     // Closes one sender of a room.
@@ -281,12 +311,37 @@ mod tests {
         let mut entries = [Cell::new(), Cell::new(), Cell::new(), Cell::new()];
         let mut woken = [0u32; 4];
         let notices = [
-            Notice { feed: 0, room: 0, id: 10 },
-            Notice { feed: 0, room: 1, id: 11 },
-            Notice { feed: 1, room: 0, id: 20 },
-            Notice { feed: 0, room: 0, id: 12 },
+            Notice {
+                feed: 0,
+                room: 0,
+                id: 10,
+            },
+            Notice {
+                feed: 0,
+                room: 1,
+                id: 11,
+            },
+            Notice {
+                feed: 1,
+                room: 0,
+                id: 20,
+            },
+            Notice {
+                feed: 0,
+                room: 0,
+                id: 12,
+            },
         ];
-        let Ok(outcome) = deliver(rt.alloc(), &mut elements, &mut entries, &mut woken, &notices, 2, 2, &rt) else {
+        let Ok(outcome) = deliver(
+            rt.alloc(),
+            &mut elements,
+            &mut entries,
+            &mut woken,
+            &notices,
+            2,
+            2,
+            &rt,
+        ) else {
             return Err(Fail::new("stopped"));
         };
         check(outcome.all)?;

@@ -4,10 +4,10 @@ ghost use mathlib.Core.Path.{_≡_};
 ghost use Rattle.executor.specs.Books.{Onward, Delivered};
 ghost use Rattle.std.specs.Of.Vec.{vec-items};
 ghost use Rattle.std.specs.Vec.{made};
-use bank::Cell;
 use crate::Floor;
 use crate::Notice;
 use crate::Sending;
+use bank::Cell;
 use distributor_channels::Entry;
 use distributor_channels::ReceivePoll;
 use refusal::Refusal;
@@ -18,10 +18,12 @@ use std::io;
 
 // Tasks: feeds have the numbers from 0, rooms from here on.
 const FIRST_ROOM: usize = 32;
+
 const TASKS: usize = 64;
 
 // How often a task may be polled for each notice, and besides. A call names at most all 64 tasks, and each is then polled once.
 const POLLS_EACH: u64 = 80;
+
 const POLLS_BESIDES: u64 = 10_000;
 
 // Why a run came to no end.
@@ -80,7 +82,10 @@ impl Ready {
         for i in 0..TASKS {
             tasks[i] = i < feeds || (FIRST_ROOM <= i && i < FIRST_ROOM.saturating_add(rooms));
         }
-        Ready { tasks, full: [false; 32] }
+        Ready {
+            tasks,
+            full: [false; 32],
+        }
     }
 
     // A task may be polled.
@@ -131,7 +136,13 @@ fn wake<R: Print>(floor: &Floor, ready: &mut Ready, named: usize, rt: &R) -> io:
 }
 
 // What a feed's turn came to is told.
-fn follow_feed<R: Print>(floor: &Floor, ready: &mut Ready, feed: usize, sending: &Sending, rt: &R) -> io::Result<()> {
+fn follow_feed<R: Print>(
+    floor: &Floor,
+    ready: &mut Ready,
+    feed: usize,
+    sending: &Sending,
+    rt: &R,
+) -> io::Result<()> {
     match sending {
         Sending::Sent(notice, named) => {
             let id = notice.id;
@@ -142,7 +153,10 @@ fn follow_feed<R: Print>(floor: &Floor, ready: &mut Ready, feed: usize, sending:
         }
         Sending::Waits(notice) => {
             let id = notice.id;
-            println!(rt, "feed {feed} waits with {id}, since every room has something queued")
+            println!(
+                rt,
+                "feed {feed} waits with {id}, since every room has something queued"
+            )
         }
         Sending::Full(notice) => {
             let id = notice.id;
@@ -161,7 +175,13 @@ fn is_done(sending: &Sending) -> bool {
 }
 
 // A feed that has no more closes its sender in every room.
-fn close_all<R: Print>(floor: &mut Floor, ready: &mut Ready, notices: &[Notice], rooms: usize, rt: &R) -> Result<(), Halt>
+fn close_all<R: Print>(
+    floor: &mut Floor,
+    ready: &mut Ready,
+    notices: &[Notice],
+    rooms: usize,
+    rt: &R,
+) -> Result<(), Halt>
     ensures { λ r. ⌜ made r (λ _. Onward (now (notices .entry)) (now (floor .entry)) (now (floor .exit))) ⌝ }
 {
     for room in 0..rooms {
@@ -172,7 +192,14 @@ fn close_all<R: Print>(floor: &mut Floor, ready: &mut Ready, notices: &[Notice],
 }
 
 // A feed's turn: its next notice, or its end.
-fn feed_turn<R: Print>(floor: &mut Floor, ready: &mut Ready, notices: &[Notice], feed: usize, rooms: usize, rt: &R) -> Result<(), Halt>
+fn feed_turn<R: Print>(
+    floor: &mut Floor,
+    ready: &mut Ready,
+    notices: &[Notice],
+    feed: usize,
+    rooms: usize,
+    rt: &R,
+) -> Result<(), Halt>
     ensures { λ r. ⌜ made r (λ _. Onward (now (notices .entry)) (now (floor .entry)) (now (floor .exit))) ⌝ }
 {
     let sending = floor.send_next(notices, feed)?;
@@ -184,7 +211,13 @@ fn feed_turn<R: Print>(floor: &mut Floor, ready: &mut Ready, notices: &[Notice],
 }
 
 // What a room's turn came to is told.
-fn follow_room<R: Print>(floor: &Floor, ready: &mut Ready, room: usize, polled: &ReceivePoll<u64>, rt: &R) -> io::Result<()> {
+fn follow_room<R: Print>(
+    floor: &Floor,
+    ready: &mut Ready,
+    room: usize,
+    polled: &ReceivePoll<u64>,
+    rt: &R,
+) -> io::Result<()> {
     match polled {
         ReceivePoll::Element(id, named) => {
             println!(rt, "room {room} is given {id}")?;
@@ -198,7 +231,13 @@ fn follow_room<R: Print>(floor: &Floor, ready: &mut Ready, room: usize, polled: 
 }
 
 // A room's turn: what comes next for it.
-fn room_turn<R: Print>(floor: &mut Floor, ready: &mut Ready, notices: &[Notice], room: usize, rt: &R) -> Result<(), Halt>
+fn room_turn<R: Print>(
+    floor: &mut Floor,
+    ready: &mut Ready,
+    notices: &[Notice],
+    room: usize,
+    rt: &R,
+) -> Result<(), Halt>
     ensures { λ r. ⌜ made r (λ _. Onward (now (notices .entry)) (now (floor .entry)) (now (floor .exit))) ⌝ }
 {
     let polled = floor.receive_next(room)??;
@@ -207,7 +246,14 @@ fn room_turn<R: Print>(floor: &mut Floor, ready: &mut Ready, notices: &[Notice],
 }
 
 // One task's turn.
-fn turn<R: Print>(floor: &mut Floor, ready: &mut Ready, notices: &[Notice], task: usize, rooms: usize, rt: &R) -> Result<(), Halt>
+fn turn<R: Print>(
+    floor: &mut Floor,
+    ready: &mut Ready,
+    notices: &[Notice],
+    task: usize,
+    rooms: usize,
+    rt: &R,
+) -> Result<(), Halt>
     ensures { λ r. ⌜ made r (λ _. Onward (now (notices .entry)) (now (floor .entry)) (now (floor .exit))) ⌝ }
 {
     if task < FIRST_ROOM {
@@ -218,11 +264,19 @@ fn turn<R: Print>(floor: &mut Floor, ready: &mut Ready, notices: &[Notice], task
 }
 
 // Polls whoever may be polled until nobody may.
-fn run<R: Print>(floor: &mut Floor, notices: &[Notice], feeds: usize, rooms: usize, rt: &R) -> Result<(), Halt>
+fn run<R: Print>(
+    floor: &mut Floor,
+    notices: &[Notice],
+    feeds: usize,
+    rooms: usize,
+    rt: &R,
+) -> Result<(), Halt>
     ensures { λ r. ⌜ made r (λ _. Onward (now (notices .entry)) (now (floor .entry)) (now (floor .exit))) ⌝ }
 {
     let mut ready = Ready::new(feeds, rooms);
-    let most = (notices.len() as u64).saturating_mul(POLLS_EACH).saturating_add(POLLS_BESIDES);
+    let most = (notices.len() as u64)
+        .saturating_mul(POLLS_EACH)
+        .saturating_add(POLLS_BESIDES);
     for _ in 0..most {
         let Some(task) = ready.next() else {
             return Ok(());
@@ -240,7 +294,16 @@ pub struct Outcome<'a> {
 }
 
 // Delivers the notices to their rooms over these memories.
-pub fn deliver<'a, R: Print>(heap: Global, elements: &'a mut [Cell<u64>], entries: &'a mut [Cell<Entry>], woken: &'a mut [u32], notices: &[Notice], feeds: u32, rooms: usize, rt: &R) -> Result<Outcome<'a>, Halt>
+pub fn deliver<'a, R: Print>(
+    heap: Global,
+    elements: &'a mut [Cell<u64>],
+    entries: &'a mut [Cell<Entry>],
+    woken: &'a mut [u32],
+    notices: &[Notice],
+    feeds: u32,
+    rooms: usize,
+    rt: &R,
+) -> Result<Outcome<'a>, Halt>
     ensures { λ r. ⌜ made r (λ o. o .all ≡ true → Delivered rooms feeds (now (notices .entry)) (vec-items (o .floor .book))) ⌝ }
 {
     let mut floor = Floor::open(heap, elements, entries, woken, rooms, feeds)?;

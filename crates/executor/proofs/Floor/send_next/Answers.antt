@@ -26,4 +26,4 @@ returns c = λ n v sent s.
     let es = c .step-of .ensures in
     rw (eo, c .write-cursor-2 .ensures)
     (sound-sent n v ns sent (me .channels) (seen (me .memories)) (vec-items (me .book)) (me .cursors) s (c .args .feed) inside i next (c .if-i-notices .left) _ (getD-default ns i _ _ (c .if-i-notices .left)) _
-      _ _ _ (c .send-poll-polled .result) (c .send-poll-polled .ensures .law) (c .send-poll-polled .ensures .history) (ap (λ k. i + k) (es ∙ ap advance eo)))
+    _ _ _ (c .send-poll-polled .result) (c .send-poll-polled .ensures .law) (c .send-poll-polled .ensures .history) (ap (λ k. i + k) (es ∙ ap advance eo)))
