@@ -342,31 +342,24 @@ impl Channels {
             Err(why) => return Err(Refused { why, element }),
         };
         if record.senders == 0 {
-            return Err(Refused {
-                why: Refusal::Closed,
-                element,
-            });
+            let why = Refusal::Closed;
+            return Err(Refused { why, element });
         }
         let Some(mut queue) = record.queue else {
             return Ok(SendPoll::Closed(element));
         };
         if self.count == 0 {
-            return match memories
-                .entries
-                .add(&mut self.sending, Entry { waker, channel }) {
+            let entry = Entry { waker, channel };
+            let why = Refusal::Places;
+            return match memories.entries.add(&mut self.sending, entry) {
                 Ok(()) => Ok(SendPoll::Wait(element)),
-                Err(_) => Err(Refused {
-                    why: Refusal::Places,
-                    element,
-                }),
+                Err(_) => Err(Refused { why, element }),
             };
         }
         let was_empty = queue.len() == 0;
         if let Err(element) = memories.elements.add(&mut queue, element) {
-            return Err(Refused {
-                why: Refusal::Cells,
-                element,
-            });
+            let why = Refusal::Cells;
+            return Err(Refused { why, element });
         }
         record.queue = Some(queue);
         if !was_empty {
