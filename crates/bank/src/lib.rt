@@ -30,8 +30,10 @@ pub struct Cell<T> {
 }
 
 impl<T> Cell<T> {
-    // A cell to make a memory of.
-    pub fn new() -> Cell<T> {
+    // A cell to make a memory of: it holds nothing.
+    pub fn new() -> Cell<T>
+        ensures { λ r. ⌜ r ≡ cell 0 None ⌝ }
+    {
         Cell {
             next: 0,
             item: None,
