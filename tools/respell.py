@@ -11,7 +11,7 @@ import re
 
 HERE = os.path.dirname(os.path.realpath(__file__))
 NAME = re.compile(r"[^\s(){}.;,@\"«»:\[\]|]+")
-CLAUSE = re.compile(r"ghost\s+use\b[^;]*;|\b(?:requires|ensures|ghost)\b\*?\s*\w*\s*:?\s*\{")
+CLAUSE = re.compile(r"ghost\s+use\b[^;]*;|\b(?:requires|ensures|ghost)\b\*?\s*\w*\s*[:=]?\s*\{")
 
 
 def table():

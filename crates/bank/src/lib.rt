@@ -9,6 +9,8 @@
 // Every cell is in one chain, a queue or the free cells, and each call moves cells between chains: nothing is allocated
 // or copied, and what is freed serves again. Each call but the making and `take_out` takes the same time however long
 // queues and memory are; no call but the making walks the memory.
+#![tactic(auto)]
+
 ghost use Rattle.std.specs.Prelude.{◌≡◌, Bool, ◌∷◌, length, None};
 ghost use Rattle.bank.specs.Banks.{view, mem, size, Makes, Counts, Measures, Adds, Takes, ReadsOldest, ReadsNewest, Rewrites, Moves, TakesOut};
 ghost use Rattle.bank.specs.Cells.{cell, empty, last_or, first_or, linkable, Relinked, Filled, Emptied, Swapped, Safe, Looked};

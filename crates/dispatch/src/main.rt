@@ -2,6 +2,7 @@
 //
 // Reads notices from standard input, one a line: `feed room id`, in decimal, feed and room from 0 to 31. Prints each action
 // as it happens, and at the end what each room was given.
+#![tactic(auto)]
 use bank::Cell;
 use distributor_channels::Entry;
 use executor::run::{Halt, deliver};

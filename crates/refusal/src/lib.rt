@@ -1,6 +1,8 @@
 // Why a call is refused. One type serves every layer of the library.
 //
 // A refused call leaves everything as it was. Where several reasons hold, the one with the smallest number is given.
+#![tactic(auto)]
+
 ghost use Rattle.std.specs.Prelude.{◌≡◌};
 ghost use Rattle.refusal.specs.Numbers.{number_of};
 

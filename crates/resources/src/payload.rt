@@ -26,19 +26,19 @@ pub trait Payload: Sized {
 
     ghost reading: { List ℕ → Self };
 
-    ghost rowsOf: { Self → ℕ };
+    ghost rows_of: { Self → ℕ };
 
-    ghost sizeOf: { Self → ℕ };
+    ghost size_of: { Self → ℕ };
 
     // The number of words, where a contract speaks of it.
     fn width() -> usize
         ensures { result ≡ width };
 
     fn rows(&self) -> u32
-        ensures { result ≡ rowsOf self.now };
+        ensures { result ≡ rows_of self.now };
 
     fn size(&self) -> u32
-        ensures { result ≡ sizeOf self.now };
+        ensures { result ≡ size_of self.now };
 
     // Writes the words to the front of the place, whose rest stays.
     fn write(&self, place: &mut [u64; 64])
@@ -54,7 +54,7 @@ pub trait Payload: Sized {
 
     ghost back: { (x : Self) → reading (words x) ≡ x };
 
-    ghost small: { (x : Self) → (rowsOf x < 2 ^ 32) × (sizeOf x < 2 ^ 32) };
+    ghost small: { (x : Self) → (rows_of x < 2 ^ 32) × (size_of x < 2 ^ 32) };
 }
 
 impl Payload for Notice {
@@ -62,19 +62,19 @@ impl Payload for Notice {
 
     ghost width = { 3 };
 
-    ghost words = { noticeWords };
+    ghost words = { notice_words };
 
-    ghost reading = { noticeRead };
+    ghost reading = { notice_read };
 
-    ghost rowsOf = { noticeRows };
+    ghost rows_of = { notice_rows };
 
-    ghost sizeOf = { noticeSize };
+    ghost size_of = { notice_size };
 
     ghost narrow = { first_of (Prim.search rules, Prim.grind (arith, Self.row.coded.inj)) };
 
     ghost long = { first_of (Prim.search rules, Prim.grind (arith, Self.row.coded.inj)) };
 
-    ghost back = { notice-back };
+    ghost back = { notice_back };
 
     ghost small = { first_of (Prim.search rules, Prim.grind (arith, Self.row.coded.inj)) };
 
@@ -110,19 +110,19 @@ impl Payload for Receipt {
 
     ghost width = { 3 };
 
-    ghost words = { receiptWords };
+    ghost words = { receipt_words };
 
-    ghost reading = { receiptRead };
+    ghost reading = { receipt_read };
 
-    ghost rowsOf = { receiptRows };
+    ghost rows_of = { receipt_rows };
 
-    ghost sizeOf = { receiptSize };
+    ghost size_of = { receipt_size };
 
     ghost narrow = { Prim.search rules };
 
     ghost long = { Prim.search rules };
 
-    ghost back = { receipt-back };
+    ghost back = { receipt_back };
 
     ghost small = { Prim.search rules };
 

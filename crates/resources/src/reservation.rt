@@ -47,7 +47,7 @@ impl Ceiling {
 }
 
 impl Reservation for Ceiling {
-    ghost standing = { ceilingStanding };
+    ghost standing = { ceiling_standing };
 
     fn grow(&mut self, s: u64) -> bool {
         if s > self.limit - self.held {
@@ -152,7 +152,7 @@ impl<'a> Tenant<'a> {
 }
 
 impl<'a> Reservation for Tenant<'a> {
-    ghost standing = { handStanding };
+    ghost standing = { hand_standing };
 
     fn grow(&mut self, s: u64) -> bool
         ensures answer { result ≡ nat_le s (hand_standing self.old).headroom }

@@ -14,6 +14,7 @@
 //
 // Derived from spill/spill_pool.rs of datafusion-physical-plan 55.0.0 (Apache-2.0; see NOTICE). Changed: carried over to Rattle;
 // files are records in a bank that is handed in with the store, drops are closes, and wakers are left out.
+#![tactic(auto)]
 ghost use Rattle.std.specs.Prelude.{◌≡◌, ℕ, ◌+◌, ◌-◌, ◌^◌, ◌<◌, not, ◌&&◌, ◌||◌, length, if◌then◌else◌, nat_eq, nat_le, nat_lt};
 ghost use Rattle.bank.specs.Banks.{view, size as extent};
 ghost use Rattle.bank.specs.Lists.{oldest as oldest_of, newest as newest_of};
@@ -429,8 +430,8 @@ impl<P> SpillPool<P> {
 impl<P: Payload> SpillPool<P> {
     // Appends a batch to the open file, or to a new one where none is open.
     pub fn push<S: Store>(&mut self, disk: &mut Disk<S>, batch: &P) -> Result<Push, Refusal>
-        ensures law { Pushes (kind_by P.Payload.width P.Payload.rowsOf P.Payload.sizeOf P.Payload.words P.Payload.reading) batch.now self.old (view disk.old.places) (S.Store.files disk.old.store) self.new (view disk.new.places) (S.Store.files disk.new.store) result }
-        ensures history { Chronicles (pushing batch.now) (kind_by P.Payload.width P.Payload.rowsOf P.Payload.sizeOf P.Payload.words P.Payload.reading) self.old (view disk.old.places) (S.Store.files disk.old.store) self.new (view disk.new.places) (S.Store.files disk.new.store) result }
+        ensures law { Pushes (kind_by P.Payload.width P.Payload.rows_of P.Payload.size_of P.Payload.words P.Payload.reading) batch.now self.old (view disk.old.places) (S.Store.files disk.old.store) self.new (view disk.new.places) (S.Store.files disk.new.store) result }
+        ensures history { Chronicles (pushing batch.now) (kind_by P.Payload.width P.Payload.rows_of P.Payload.size_of P.Payload.words P.Payload.reading) self.old (view disk.old.places) (S.Store.files disk.old.store) self.new (view disk.new.places) (S.Store.files disk.new.store) result }
         ensures refused { Refuses self.old (view disk.old.places) disk.old.store self.new (view disk.new.places) disk.new.store result }
         ensures unfit { Unfit self.old (view disk.old.places) result }
         ensures same { disk.new.places.cells.ghost_name ≡ disk.old.places.cells.ghost_name }
@@ -483,8 +484,8 @@ impl<P: Payload> SpillPool<P> {
 
     // Reads the next batch of the oldest file. Where that fails nothing moves, and the next poll reads the same batch.
     pub fn poll<S: Store>(&mut self, disk: &mut Disk<S>) -> Result<PoolPoll<P>, Refusal>
-        ensures law { Polls (kind_by P-as-Payload.width P-as-Payload.rowsOf P-as-Payload.sizeOf P-as-Payload.words P-as-Payload.reading) self.old (view disk.old.places) (S.Store.files disk.old.store) self.new (view disk.new.places) (S.Store.files disk.new.store) result }
-        ensures history { Chronicles polling (kind_by P-as-Payload.width P-as-Payload.rowsOf P-as-Payload.sizeOf P-as-Payload.words P-as-Payload.reading) self.old (view disk.old.places) (S.Store.files disk.old.store) self.new (view disk.new.places) (S.Store.files disk.new.store) result }
+        ensures law { Polls (kind_by P-as-Payload.width P-as-Payload.rows_of P-as-Payload.size_of P-as-Payload.words P-as-Payload.reading) self.old (view disk.old.places) (S.Store.files disk.old.store) self.new (view disk.new.places) (S.Store.files disk.new.store) result }
+        ensures history { Chronicles polling (kind_by P-as-Payload.width P-as-Payload.rows_of P-as-Payload.size_of P-as-Payload.words P-as-Payload.reading) self.old (view disk.old.places) (S.Store.files disk.old.store) self.new (view disk.new.places) (S.Store.files disk.new.store) result }
         ensures refused { Refuses self.old (view disk.old.places) disk.old.store self.new (view disk.new.places) disk.new.store result }
         ensures unfit { Unfit self.old (view disk.old.places) result }
         ensures same { disk.new.places.cells.ghost_name ≡ disk.old.places.cells.ghost_name }
@@ -516,8 +517,8 @@ impl<P: Payload> SpillPool<P> {
 
     // Closes a sink. The last one finishes the open file, which is marked finished even where that fails; the fault is told.
     pub fn close_sink<S: Store>(&mut self, disk: &mut Disk<S>) -> Result<Option<Fault>, Refusal>
-        ensures law { Closes (kind_by P-as-Payload.width P-as-Payload.rowsOf P-as-Payload.sizeOf P-as-Payload.words P-as-Payload.reading) self.old (view disk.old.places) (S.Store.files disk.old.store) self.new (view disk.new.places) (S.Store.files disk.new.store) result }
-        ensures history { Chronicles closing (kind_by P-as-Payload.width P-as-Payload.rowsOf P-as-Payload.sizeOf P-as-Payload.words P-as-Payload.reading) self.old (view disk.old.places) (S.Store.files disk.old.store) self.new (view disk.new.places) (S.Store.files disk.new.store) result }
+        ensures law { Closes (kind_by P-as-Payload.width P-as-Payload.rows_of P-as-Payload.size_of P-as-Payload.words P-as-Payload.reading) self.old (view disk.old.places) (S.Store.files disk.old.store) self.new (view disk.new.places) (S.Store.files disk.new.store) result }
+        ensures history { Chronicles closing (kind_by P-as-Payload.width P-as-Payload.rows_of P-as-Payload.size_of P-as-Payload.words P-as-Payload.reading) self.old (view disk.old.places) (S.Store.files disk.old.store) self.new (view disk.new.places) (S.Store.files disk.new.store) result }
         ensures refused { Refuses self.old (view disk.old.places) disk.old.store self.new (view disk.new.places) disk.new.store result }
         ensures unfit { Unfit self.old (view disk.old.places) result }
         ensures same { disk.new.places.cells.ghost_name ≡ disk.old.places.cells.ghost_name }
@@ -548,8 +549,8 @@ impl<P: Payload> SpillPool<P> {
 
     // Removes all files, for a stream that closes.
     pub fn remove_all<S: Store>(&mut self, disk: &mut Disk<S>) -> Result<(), Refusal>
-        ensures law { Removes (kind_by P-as-Payload.width P-as-Payload.rowsOf P-as-Payload.sizeOf P-as-Payload.words P-as-Payload.reading) self.old (view disk.old.places) (S.Store.files disk.old.store) self.new (view disk.new.places) (S.Store.files disk.new.store) result }
-        ensures history { Chronicles removing (kind_by P-as-Payload.width P-as-Payload.rowsOf P-as-Payload.sizeOf P-as-Payload.words P-as-Payload.reading) self.old (view disk.old.places) (S.Store.files disk.old.store) self.new (view disk.new.places) (S.Store.files disk.new.store) result }
+        ensures law { Removes (kind_by P-as-Payload.width P-as-Payload.rows_of P-as-Payload.size_of P-as-Payload.words P-as-Payload.reading) self.old (view disk.old.places) (S.Store.files disk.old.store) self.new (view disk.new.places) (S.Store.files disk.new.store) result }
+        ensures history { Chronicles removing (kind_by P-as-Payload.width P-as-Payload.rows_of P-as-Payload.size_of P-as-Payload.words P-as-Payload.reading) self.old (view disk.old.places) (S.Store.files disk.old.store) self.new (view disk.new.places) (S.Store.files disk.new.store) result }
         ensures refused { Refuses self.old (view disk.old.places) disk.old.store self.new (view disk.new.places) disk.new.store result }
         ensures unfit { Unfit self.old (view disk.old.places) result }
         ensures same { disk.new.places.cells.ghost_name ≡ disk.old.places.cells.ghost_name }

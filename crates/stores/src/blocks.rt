@@ -23,7 +23,7 @@ pub(crate) fn lawful_length(n: usize) -> bool
 }
 
 impl Store for BlockStore {
-    ghost files = { blockFiles };
+    ghost files = { block_files };
 
     ghost steps = { BlockSteps };
 

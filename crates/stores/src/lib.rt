@@ -4,6 +4,7 @@
 //     LogStore     | file n w .. | file n w .. | 0 ..           one record behind another, until the last file goes
 //
 // Both keep their files in a directory: which file has which batches, and where each batch lies.
+#![tactic(auto)]
 pub mod block;
 pub mod blocks;
 pub mod chains;

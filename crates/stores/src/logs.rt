@@ -19,7 +19,7 @@ pub const RECORD_HEAD: usize = 2;
 pub const RECORD_LEAST: usize = 3;
 
 impl Store for LogStore {
-    ghost files = { logFiles };
+    ghost files = { log_files };
 
     ghost steps = { LogSteps };
 

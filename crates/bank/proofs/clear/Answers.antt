@@ -12,5 +12,5 @@ loop-i-preserved g c =
 pub returns : goal.returns
 returns g c =
     let e : length c.loop-i.cells ≡ length c.args.cells.now = c.loop-i.auto.cells in
-    let t : c.saturating-sub.result ≡ length c.loop-i.cells - 1 = omega arith in
+    let t : c.saturating_sub.result ≡ length c.loop-i.cells - 1 = omega arith in
     cleared c.loop-i.cells (λ j h. c.loop-i.invariant j (omega arith)) _ _ e (cc)

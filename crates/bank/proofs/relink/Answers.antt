@@ -8,12 +8,12 @@ use Rattle.bank.proofs.relink.Goals as goal
 pub returns : goal.returns
 returns g c =
     let cs = c.args.cells.now in let p = c.args.from.now in let q = c.args.to.now in
-    let t = c.last-or-last.result in
-    let h : linkable (length cs) p q t ≡ true = sym c.can-link.ensures ∙ c.if-not-can-link.false in
+    let t = c.last_or-last.result in
+    let h : linkable (length cs) p q t ≡ true = sym c.can_link.ensures ∙ c.if-not-can_link.false in
     let lt : p.head < length cs = grind (arith, nat_tests) in
     let lt2 : t < length cs = grind (arith, nat_tests) in
     let e1 : get_or cs p.head c.index-cells-head.result ≡ at cs p.head = get_or_default cs p.head _ _ lt in
     let e2 : get_or cs t c.index-cells-last.result ≡ at cs t = get_or_default cs t _ _ lt2 in
-    let e3 = c.last-or-last.ensures in
-    let e4 = c.first-or-first.ensures in
+    let e3 = c.last_or-last.ensures in
+    let e4 = c.first_or-first.ensures in
     record { did = λ _. (cc, cc, cc, cc); refused = λ f. absurd (both_ways _ (ap (λ x. linkable (length cs) p q x) e3 ∙ f) h) }

@@ -2,8 +2,8 @@ use Rattle.std.proofs.Common.{sym, ◌∙◌}
 use Rattle.bank.proofs.Turns.{turn_none, turn_out, turn_back}
 use Rattle.bank.proofs.turn.Goals as goal
 
-pub returns-in-default : goal.returns-in-default
-returns-in-default g c = turn_none (g.P.Test.passes c.args.p.now) c.args.cells.now c.args.q.now c.args.out.now c.in-default.ensures
+pub returns-in_default : goal.returns-in_default
+returns-in_default g c = turn_none (g.P.Test.passes c.args.p.now) c.args.cells.now c.args.q.now c.args.out.now c.in_default.ensures
 
 pub returns-then-test : goal.returns-then-test
 returns-then-test g c =

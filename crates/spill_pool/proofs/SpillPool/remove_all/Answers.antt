@@ -8,7 +8,7 @@ use Rattle.spill_pool.proofs.SpillPool.remove_all.Goals as goal
 
 -- the payload type by its meaning, and its laws
 abbrev kind : (g : given.Over) → Kind g.row.P.Denot
-kind g = kind_by g.P.Payload.width g.P.Payload.rowsOf g.P.Payload.sizeOf g.P.Payload.words g.P.Payload.reading
+kind g = kind_by g.P.Payload.width g.P.Payload.rows_of g.P.Payload.size_of g.P.Payload.words g.P.Payload.reading
 
 lawful : (g : given.Over) → Lawful (kind g)
 lawful g = record { narrow = g.met.P.Payload.narrow; long = g.met.P.Payload.long; back = g.met.P.Payload.back; small = λ x. (g.met.P.Payload.small x).1 }
