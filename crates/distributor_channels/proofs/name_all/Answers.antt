@@ -7,11 +7,11 @@ loop-i-init c = (some_none _ c.args.q.now c.args.woken.now.list.now, refl, refl,
 
 pub loop-i-preserved : goal.loop-i-preserved
 loop-i-preserved c = (
-  some_more c.loop-i.i _ c.args.q.now c.args.woken.now.list.now _ _ _ _ _ _ (omega arith) c.loop-i.invariant.0 c.name-one.ensures.law,
-  c.name-one.ensures.same.0 ∙ c.loop-i.invariant.1,
-  c.name-one.ensures.same.1 ∙ c.loop-i.invariant.2,
-  c.name-one.ensures.size.0 ∙ c.loop-i.invariant.3,
-  c.name-one.ensures.size.1 ∙ c.loop-i.invariant.4,
+  some_more c.loop-i.i _ c.args.q.now c.args.woken.now.list.now _ _ _ _ _ _ (omega arith) c.loop-i.invariant.0 c.name_one.ensures.law,
+  c.name_one.ensures.same.0 ∙ c.loop-i.invariant.1,
+  c.name_one.ensures.same.1 ∙ c.loop-i.invariant.2,
+  c.name_one.ensures.size.0 ∙ c.loop-i.invariant.3,
+  c.name_one.ensures.size.1 ∙ c.loop-i.invariant.4,
 )
 
 pub returns : goal.returns

@@ -9,9 +9,9 @@ loop-channel-preserved c =
     let xs = c.args.table.now in let i = c.loop-channel.channel-index in
     let lt : i < length xs = omega arith in
     let e : tallied (drop i xs) ≡ cond (record_open (get_or xs i shut_record)) 1 0 + tallied (drop (i + 1) xs) = at_drop_more tallied xs i shut_record lt in
-    elim c.if-is-open.branch [
-      | then-is-open w ↦ (let b : ◌≡◌ {A = ℕ} (cond (record_open (get_or xs i shut_record)) 1 0) 1 = rw (sym c.is-open.ensures ∙ w.if-is-open.true) refl in let n = w.count-is in (omega arith, omega arith))
-      | else-is-open w ↦ (let b : ◌≡◌ {A = ℕ} (cond (record_open (get_or xs i shut_record)) 1 0) 0 = rw (sym c.is-open.ensures ∙ w.if-is-open.false) refl in let n = w.count-is in (omega arith, omega arith))
+    elim c.if-is_open.branch [
+      | then-is-open w ↦ (let b : ◌≡◌ {A = ℕ} (cond (record_open (get_or xs i shut_record)) 1 0) 1 = rw (sym c.is_open.ensures ∙ w.if-is-open.true) refl in let n = w.count-is in (omega arith, omega arith))
+      | else-is-open w ↦ (let b : ◌≡◌ {A = ℕ} (cond (record_open (get_or xs i shut_record)) 1 0) 0 = rw (sym c.is_open.ensures ∙ w.if-is-open.false) refl in let n = w.count-is in (omega arith, omega arith))
     ]
 
 pub returns : goal.returns

@@ -6,8 +6,8 @@ use Rattle.resources.proofs.reservation.apply.Goals as goal
 
 pub loop-call-preserved : goal.loop-call-preserved
 loop-call-preserved g c = (
-  changes_more c.args.calls.now c.loop-call.call-index _ _ _ _ c.loop-call-test.true c.apply-one.ensures.after c.loop-call.invariant.0,
-  ap whole c.apply-one.ensures.after ∙ whole-change _ _ ∙ c.loop-call.invariant.1,
+  changes_more c.args.calls.now c.loop-call.call-index _ _ _ _ c.loop-call-test.true c.apply_one.ensures.after c.loop-call.invariant.0,
+  ap whole c.apply_one.ensures.after ∙ whole-change _ _ ∙ c.loop-call.invariant.1,
 )
 
 pub returns : goal.returns

@@ -5,8 +5,8 @@ use Rattle.resources.proofs.tenants.Tenants.apply.Goals as goal
 
 pub loop-call-preserved : goal.loop-call-preserved
 loop-call-preserved c = (
-  tenants_more c.args.calls.now c.loop-call.call-index _ _ _ _ _ _ c.loop-call-test.true c.apply-one.ensures.limit c.apply-one.ensures.held c.loop-call.invariant.0,
-  c.apply-one.ensures.limit ∙ c.loop-call.invariant.1,
+  tenants_more c.args.calls.now c.loop-call.call-index _ _ _ _ _ _ c.loop-call-test.true c.apply_one.ensures.limit c.apply_one.ensures.held c.loop-call.invariant.0,
+  c.apply_one.ensures.limit ∙ c.loop-call.invariant.1,
 )
 
 pub returns : goal.returns

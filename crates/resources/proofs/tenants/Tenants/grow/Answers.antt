@@ -8,10 +8,10 @@ returns-then-s-self c =
     let a = refused_grow c.args.self.now c.args.index c.args.s c.requires c.if-s-self.true in
     record { answer = a.0; after = a.1 }
 
-pub overflow-add-self : goal.overflow-add-self
-overflow-add-self c =
+pub overflow_add-self : goal.overflow_add-self
+overflow_add-self c =
     let t = c.args.self.now in
     omega (arith, at_most t c.args.index c.args.s c.requires, t.sound.2, c.if-s-self.false)
 
-pub invariant-of-self : goal.invariant-of-self
-invariant-of-self c = (sum-grown c.args.self.now c.args.index c.args.s c.requires c.if-s-self.false, tt)
+pub invariant_of-self : goal.invariant_of-self
+invariant_of-self c = (sum-grown c.args.self.now c.args.index c.args.s c.requires c.if-s-self.false, tt)

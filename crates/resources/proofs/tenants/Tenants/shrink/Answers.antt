@@ -8,11 +8,11 @@ returns-then-s-self c =
     let a = refused_shrink c.args.self.now c.args.index c.args.s c.requires c.if-s-self.true in
     record { answer = a.0; after = a.1 }
 
-pub overflow-sub-self-2 : goal.overflow-sub-self-2
-overflow-sub-self-2 c = omega (arith, own_taken c.args.self.now c.args.index c.args.s c.requires, c.if-s-self.false)
+pub overflow_sub-self-2 : goal.overflow_sub-self-2
+overflow_sub-self-2 c = omega (arith, own_taken c.args.self.now c.args.index c.args.s c.requires, c.if-s-self.false)
 
-pub invariant-of-self : goal.invariant-of-self
-invariant-of-self c = (sum-shrunk c.args.self.now c.args.index c.args.s c.requires c.if-s-self.false, tt)
+pub invariant_of-self : goal.invariant_of-self
+invariant_of-self c = (sum-shrunk c.args.self.now c.args.index c.args.s c.requires c.if-s-self.false, tt)
 
 pub returns : goal.returns
 returns c =
