@@ -3,7 +3,6 @@
 -- answers what was allows. Assumes nothing.
 use Rattle.std.specs.Prelude.{◌≡◌, ℕ, ◌^◌, ◌<◌, Bool, true, false, cond, ◌&&◌, List, [], ◌∷◌, ◌++◌, length, drop, is_some, Some, None, Ok, Err, Option, Result, nat_eq, nat_le, nat_lt}
 use Rattle.std.specs.List.{slice_get}
-use Rattle.std.specs.Map.{update}
 use Rattle.std.specs.Option.{option_map}
 use Rattle.resources.specs.declared.cause.Cause.{Cause}
 use Rattle.resources.specs.declared.cause.Cause.TheVariants.{NoSpace, Misuse, Device}
@@ -19,7 +18,7 @@ Files = ℕ → Option File
 
 -- the file of one number becomes f, and no other changes
 abbrev pub put : Files → ℕ → Option File → Files
-put fs n f = update nat_eq fs n f
+put fs n f = λ q. cond (nat_eq q n) f (fs q)
 
 -- an open file without batches
 abbrev pub fresh : File

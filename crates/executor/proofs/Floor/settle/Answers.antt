@@ -8,10 +8,10 @@ loop-room-init c = emptied_none c.args.notices.now c.args.self.now
 
 pub loop-room-preserved : goal.loop-room-preserved
 loop-room-preserved c =
-    emptied_more c.loop-room.room c.args.notices.now c.args.self.now.cursors c.args.self.now c.loop-room.self c.drained.new.self c.in-ok-drained.field-0
-    c.loop-room.invariant c.in-ok-drained.ensures.law c.drained.ensures.places c.if-not-branch.false
+    emptied_more c.loop-room.room c.args.notices.now c.args.self.now.cursors c.args.self.now c.loop-room.self c.drained.new.self c.in_ok-drained.field-0
+    c.loop-room.invariant c.in_ok-drained.ensures.law c.drained.ensures.places c.if-not-branch.false
 
 pub returns : goal.returns
 returns c = λ _.
     let e : c.loop-room.room ≡ c.args.rooms = omega arith in
-    delivered c.args.rooms c.args.feeds c.args.notices.now c.args.self.now c.loop-room.self (rw e at c.loop-room.invariant) (c.all-at-end.ensures c.if-not-all-at-end.false)
+    delivered c.args.rooms c.args.feeds c.args.notices.now c.args.self.now c.loop-room.self (rw e at c.loop-room.invariant) (c.all_at_end.ensures c.if-not-all_at_end.false)

@@ -14,4 +14,4 @@ overflow_add-self c =
     omega (arith, at_most t c.args.index c.args.s c.requires, t.sound.2, c.if-s-self.false)
 
 pub invariant_of-self : goal.invariant_of-self
-invariant_of-self c = (sum-grown c.args.self.now c.args.index c.args.s c.requires c.if-s-self.false, tt)
+invariant_of-self c = record { sound = sum-grown c.args.self.now c.args.index c.args.s c.requires c.if-s-self.false }

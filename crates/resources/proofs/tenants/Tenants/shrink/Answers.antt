@@ -12,7 +12,7 @@ pub overflow_sub-self-2 : goal.overflow_sub-self-2
 overflow_sub-self-2 c = omega (arith, own_taken c.args.self.now c.args.index c.args.s c.requires, c.if-s-self.false)
 
 pub invariant_of-self : goal.invariant_of-self
-invariant_of-self c = (sum-shrunk c.args.self.now c.args.index c.args.s c.requires c.if-s-self.false, tt)
+invariant_of-self c = record { sound = sum-shrunk c.args.self.now c.args.index c.args.s c.requires c.if-s-self.false }
 
 pub returns : goal.returns
 returns c =
