@@ -2,10 +2,9 @@
 use Rattle.std.proofs.Common.{◌≡◌, ℕ, zero, suc, ◌+◌, ◌-◌, ◌<◌, ◌≤◌, Bool, true, false, cond, eqb, ltb, ◌⊎◌, List, [], ◌∷◌, ◌++◌, map, length, get_or, set, Some, None, Option, sym, refl, ap, ◌∙◌, subst, inl, inr, ⊎_elim, arith}
 use mathlib.Core.Path.{fun_ext}
 use Rattle.std.specs.List.{slice_get}
-use Rattle.std.specs.Map.{update}
 use Rattle.std.proofs.lemmas.List.{length_push}
 use Rattle.std.proofs.lemmas.Option.{slice_get-get_or, slice_get_past}
-use Rattle.std.proofs.lemmas.Map.{update-update}
+use Rattle.stores.proofs.Lookups.{put_twice}
 use Rattle.std.proofs.lemmas.Bool.{cases_eq, cond-true, cond-false, eq-eqb, ne_eqb}
 use Rattle.stores.specs.declared.node.Node.{Node}
 use Rattle.stores.specs.declared.node.Entry.{Entry}
@@ -189,7 +188,7 @@ remove_files ns es count next o v i n lo le g ms ds next₁ o₁ cl empty ps qs 
     ap (λ (q : Files). q x) two
     ∙ ap (λ (q : Files). put q (entry ds i).number None x) one
     ∙ ap (λ (y : ℕ). put (put (files_in ns v es count) (entry es i).number (Some (file_of ms v (entry ds i)))) y None x) (number i)
-    ∙ update-update eqb (files_in ns v es count) (entry es i).number (Some (file_of ms v (entry ds i))) None x
+    ∙ put_twice (entry es i).number x None (Some (file_of ms v (entry ds i))) (files_in ns v es count x)
     ∙ ap (λ (y : ℕ). put (files_in ns v es count) y None x) g in (
       ap (λ (x : List Node). files_in x v qs count') e ∙ ap (λ (x : List Entry). files_in ms v x count') f ∙ ap (files_in ms v (closed_up ds i k)) h ∙ fun_ext names,
       ap (λ (x : List Node). load_of (files_of x v qs count')) e ∙ ap (λ (x : List Entry). load_of (files_of ms v x count')) f ∙ ap (λ (x : ℕ). load_of (files_of ms v (closed_up ds i k) x)) h

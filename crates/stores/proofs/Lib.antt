@@ -4,6 +4,7 @@ pub mod Orders
 pub mod Entries
 pub mod Openings
 pub mod Layings
+pub mod Lookups
 pub mod Tables
 pub mod Filing
 pub mod Fars

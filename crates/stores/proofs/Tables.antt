@@ -1,35 +1,27 @@
 -- Files by number, from the entries in use. Assumes nothing.
 use Rattle.std.proofs.Common.{◌≡◌, ℕ, zero, suc, ◌+◌, ◌-◌, ◌^◌, ◌<◌, ◌≤◌, min, Bool, true, false, cond, eqb, ltb, List, [], ◌∷◌, ◌++◌, map, length, get_or, take, drop, set, Some, None, sum_by, Option, sym, refl, ap, ◌∙◌, subst, ⊎_elim, add-one, arith, length-drop, length-set, length-take}
 use mathlib.Core.Path.{fun_ext}
-use Rattle.std.specs.Map.{lookup, update}
 use Rattle.std.specs.List.{AllByRecursion, remove}
 use Rattle.std.proofs.lemmas.List.{get_or-take, get_or-drop, get_or-map, length-map, ext_get_or, get_or-set_same, get_or-set_other, get_or_default, length_push, get_or_append_left, get_or_push, take_all, drop_all, take_more, drop_more, map_push}
 use Rattle.std.proofs.lemmas.List.Edits.{get_or-remove_below, get_or-remove_above, length-remove}
-use Rattle.std.proofs.lemmas.Map.{Hit, Missing, lookup-missing, lookup-hit, lookup-set, lookup-insert, lookup-remove}
 use Rattle.std.proofs.lemmas.List.Sums.{sum_by-set, sum_by_push, sum_by-append, sum_by-take-drop, sum_by-cons, sum_by_more}
 use Rattle.std.proofs.lemmas.Bool.{cases_eq, cases_lt, eq-eqb, ne_eqb, eqb-true, eqb-false, cases_Bool, lt-ltb}
 use Rattle.stores.specs.declared.node.Node.{Node}
 use Rattle.stores.specs.declared.node.Entry.{Entry}
 use Rattle.resources.specs.Files.{File, Files, put, fresh}
 use Rattle.stores.specs.Chains.{node, entry, blank_entry, Apart, held, walk, closed_up}
-use Rattle.stores.specs.Stores.{in_use, numbers_of, file_of, files_of, files_in, Load, load_of}
+use Rattle.stores.specs.Stores.{in_use, numbers_of, file_of, files_of, lookup, files_in, Load, load_of}
+use Rattle.stores.proofs.Lookups.{Hit, Missing, lookup_hit, lookup_missing, lookup_set, lookup_push, lookup_remove}
 use Rattle.stores.proofs.Orders.{Order}
 use Rattle.stores.proofs.Chaining.{length-walk}
 use Rattle.stores.proofs.Entries.{closed_below, closed_above}
 
-flip : (x y : ℕ) → eqb x y ≡ eqb y x
-flip x y =
-    ⊎_elim (λ (e : x ≡ y). eq-eqb x y e ∙ sym (eq-eqb y x (sym e))) (λ (h : x ≡ y → ⊥). ne_eqb x y h ∙ sym (ne_eqb y x (λ e. h (sym e)))) (cases_eq x y)
-
-alike : (x y z : ℕ) → eqb x y ≡ true → eqb x z ≡ eqb y z
-alike x y z h = ap (λ (u : ℕ). eqb u z) (eqb-true x y h)
-
-hit_from : (ks : List ℕ) (j n : ℕ) → j < length ks → get_or ks j 0 ≡ n → ((i : ℕ) → i < j → get_or ks i 0 ≡ n → ⊥) → Hit eqb n ks j
+hit_from : (ks : List ℕ) (j n : ℕ) → j < length ks → get_or ks j 0 ≡ n → ((i : ℕ) → i < j → get_or ks i 0 ≡ n → ⊥) → Hit n ks j
 hit_from [] j n l e h = absurd (omega arith)
 hit_from (k ∷ ks) zero n l e h = eq-eqb n k (sym e)
 hit_from (k ∷ ks) (suc j) n l e h = (ne_eqb n k (λ u. h 0 (omega arith) (sym u)), hit_from ks j n (omega arith) e (λ i li. h (suc i) (omega arith)))
 
-missing_from : (ks : List ℕ) (n : ℕ) → ((i : ℕ) → i < length ks → get_or ks i 0 ≡ n → ⊥) → Missing eqb n ks
+missing_from : (ks : List ℕ) (n : ℕ) → ((i : ℕ) → i < length ks → get_or ks i 0 ≡ n → ⊥) → Missing n ks
 missing_from [] n h = tt
 missing_from (k ∷ ks) n h = (ne_eqb n k (λ u. h 0 (omega arith) (sym u)), missing_from ks n (λ i l. h (suc i) (omega arith)))
 
@@ -56,7 +48,7 @@ module _ (ns : List Node) (es : List Entry) (count next : ℕ) (o : Order ns es 
   numbers_at j l = get_or-map (λ e. e.number) (in_use es count) j blank_entry 0 (omega (arith, in_use_long)) ∙ ap (λ (e : Entry). e.number) (in_use_at j l)
 
   -- the number of the entry i comes first at i - 1
-  pub hit : (i : ℕ) → 0 < i → i ≤ count → Hit eqb (entry es i).number (numbers_of es count) (i - 1)
+  pub hit : (i : ℕ) → 0 < i → i ≤ count → Hit (entry es i).number (numbers_of es count) (i - 1)
   hit i lo le =
       let e : i - 1 + 1 ≡ i = omega arith in
       hit_from (numbers_of es count) (i - 1) (entry es i).number (omega (arith, numbers_long)) (numbers_at (i - 1) (omega arith) ∙ ap (λ (k : ℕ). (entry es k).number) e)
@@ -64,7 +56,7 @@ module _ (ns : List Node) (es : List Entry) (count next : ℕ) (o : Order ns es 
       let u : j + 1 ≡ i = apart (j + 1) i (omega (arith, table, few), omega (arith, table, few), sym (numbers_at j (omega arith)) ∙ h) in
       omega arith)
 
-  pub missing : (n : ℕ) → ((j : ℕ) → 0 < j → j ≤ count → (entry es j).number ≡ n → ⊥) → Missing eqb n (numbers_of es count)
+  pub missing : (n : ℕ) → ((j : ℕ) → 0 < j → j ≤ count → (entry es j).number ≡ n → ⊥) → Missing n (numbers_of es count)
   missing n h = missing_from (numbers_of es count) n (λ j l e. let lj : j < count = omega (arith, numbers_long) in h (j + 1) (omega arith) (omega arith) (sym (numbers_at j lj) ∙ e))
 
   module _ (v : ℕ → Node → List ℕ) where
@@ -77,11 +69,11 @@ module _ (ns : List Node) (es : List Entry) (count next : ℕ) (o : Order ns es 
     pub find_at : (i : ℕ) → 0 < i → i ≤ count → files_in ns v es count (entry es i).number ≡ Some (file_of ns v (entry es i))
     find_at i lo le =
         let e : i - 1 + 1 ≡ i = omega arith in
-        lookup-hit eqb (entry es i).number fresh (numbers_of es count) (files_of ns v es count) (i - 1) (hit i lo le) (omega (arith, files_long))
+        lookup_hit (entry es i).number fresh (numbers_of es count) (files_of ns v es count) (i - 1) (hit i lo le) (files_long ∙ sym numbers_long)
         ∙ ap Some (files_at (i - 1) fresh (omega arith) ∙ ap (λ (k : ℕ). file_of ns v (entry es k)) e)
 
     pub find_none : (n : ℕ) → ((j : ℕ) → 0 < j → j ≤ count → (entry es j).number ≡ n → ⊥) → files_in ns v es count n ≡ None
-    find_none n h = lookup-missing eqb n (numbers_of es count) (files_of ns v es count) (missing n h)
+    find_none n h = lookup_missing n (numbers_of es count) (files_of ns v es count) (missing n h)
 
 -- one file changes
 module _ (ns : List Node) (es : List Entry) (count next : ℕ) (o : Order ns es count next) (v : ℕ → Node → List ℕ)
@@ -114,9 +106,9 @@ module _ (ns : List Node) (es : List Entry) (count next : ℕ) (o : Order ns es 
 
   pub files_put : files_in ms v' ds count ≡ put (files_in ns v es count) (entry es i).number (Some (file_of ms v' (entry ds i)))
   files_put = fun_ext (λ m.
-      ap (λ (ks : List ℕ). lookup eqb ks (files_of ms v' ds count) m) numbers_same
-      ∙ ap (λ (fs : List File). lookup eqb (numbers_of es count) fs m) files_set
-      ∙ lookup-set eqb flip alike (entry es i).number m (file_of ms v' (entry ds i)) (numbers_of es count) (files_of ns v es count) (i - 1) (hit ns es count next o i lo le) (omega (arith, files_long ns es count next o v)))
+      ap (λ (ks : List ℕ). lookup ks (files_of ms v' ds count) m) numbers_same
+      ∙ ap (λ (fs : List File). lookup (numbers_of es count) fs m) files_set
+      ∙ lookup_set (entry es i).number m (file_of ms v' (entry ds i)) (numbers_of es count) (files_of ns v es count) (i - 1) (hit ns es count next o i lo le) (files_long ns es count next o v ∙ sym (numbers_long ns es count next o)))
 
   pub load_files : (load_of (files_of ms v' ds count)).files ≡ (load_of (files_of ns v es count)).files
   load_files = files_long ms ds count next' o' v' ∙ sym (files_long ns es count next o v)
@@ -174,11 +166,9 @@ module _ (ns : List Node) (es : List Entry) (count next : ℕ) (o : Order ns es 
   files_create = fun_ext (λ m.
       let ks = numbers_of es count in let fs = files_of ns v es count in let k = (entry es (count + 1)).number in
       let lk = numbers_long ns es count next o in let lf = files_long ns es count next o v in
-      let tk : take count ks ++ k ∷ drop count ks ≡ ks ++ k ∷ [] = ap (λ (xs : List ℕ). xs ++ k ∷ drop count ks) (take_all count ks (omega arith)) ∙ ap (λ (xs : List ℕ). ks ++ k ∷ xs) (drop_all count ks (omega arith)) in
-      let tf : take count fs ++ fresh ∷ drop count fs ≡ fs ++ fresh ∷ [] = ap (λ (xs : List File). xs ++ fresh ∷ drop count fs) (take_all count fs (omega arith)) ∙ ap (λ (xs : List File). fs ++ fresh ∷ xs) (drop_all count fs (omega arith)) in
-      ap (λ (xs : List ℕ). lookup eqb xs (files_of ns v es (count + 1)) m) (numbers_push ∙ sym tk)
-      ∙ ap (λ (xs : List File). lookup eqb (take count ks ++ k ∷ drop count ks) xs m) (files_push ∙ sym tf)
-      ∙ lookup-insert eqb flip alike k m fresh count ks fs (missing ns es count next o k unused_number) (omega arith) (omega arith))
+      ap (λ (xs : List ℕ). lookup xs (files_of ns v es (count + 1)) m) numbers_push
+      ∙ ap (λ (xs : List File). lookup (ks ++ k ∷ []) xs m) files_push
+      ∙ lookup_push k m fresh ks fs (missing ns es count next o k unused_number) (omega arith))
 
   pub load_create : load_of (files_of ns v es (count + 1)) ≡ record { files = (load_of (files_of ns v es count)).files + 1; batches = (load_of (files_of ns v es count)).batches }
   load_create =
@@ -239,9 +229,9 @@ module _ (ns : List Node) (es : List Entry) (count next : ℕ) (o : Order ns es 
       let a = numbers_at ns es count next o (suc (i - 1) + j) (omega arith) in
       let u : suc (i - 1) + j + 1 ≡ i = apart ns es count next o (suc (i - 1) + j + 1) i (omega (arith, table ns es count next o, few ns es count next o), omega (arith, table ns es count next o, few ns es count next o), sym a ∙ sym w ∙ e) in
       omega arith) in
-      ap (λ (xs : List ℕ). lookup eqb xs (files_of ns v (closed_up es i n) (count - 1)) m) numbers_removed
-      ∙ ap (λ (xs : List File). lookup eqb (remove ks (i - 1)) xs m) files_removed
-      ∙ lookup-remove eqb flip alike (entry es i).number m ks fs (i - 1) (hit ns es count next o i lo le) gone (omega arith))
+      ap (λ (xs : List ℕ). lookup xs (files_of ns v (closed_up es i n) (count - 1)) m) numbers_removed
+      ∙ ap (λ (xs : List File). lookup (remove ks (i - 1)) xs m) files_removed
+      ∙ lookup_remove (entry es i).number m ks fs (i - 1) (hit ns es count next o i lo le) gone (omega arith))
 
   pub load_drop : ((load_of (files_of ns v (closed_up es i n) (count - 1))).files + 1 ≡ (load_of (files_of ns v es count)).files)
       × ((load_of (files_of ns v (closed_up es i n) (count - 1))).batches + length (held ns v (entry es i)) ≡ (load_of (files_of ns v es count)).batches)

@@ -1,7 +1,6 @@
 -- What the delivered stores hold, and exactly what they answer. Assumes nothing.
 use Rattle.std.specs.Prelude.{◌≡◌, ℕ, ◌+◌, ◌-◌, ◌*◌, ◌/◌, ◌<◌, ◌≤◌, Bool, true, false, cond, ◌&&◌, ◌⊎◌, List, [], ◌∷◌, ◌++◌, map, length, take, drop, Some, None, vec_items, sum_by, Option, ◌==◌, ◌≢◌, nat_eq, nat_le, nat_lt, slice_set}
 use Rattle.std.proofs.Math.Seq.{paste}
-use Rattle.std.specs.Map.{lookup}
 use Rattle.resources.specs.declared.cause.Cause.TheVariants.{NoSpace, Misuse}
 use Rattle.stores.specs.declared.node.Node.{Node}
 use Rattle.stores.specs.declared.node.Entry.{Entry}
@@ -25,9 +24,15 @@ file_of ns v e = record { live = e.live; batches = held ns v e }
 abbrev pub files_of : List Node → (ℕ → Node → List ℕ) → List Entry → ℕ → List File
 files_of ns v es count = map (file_of ns v) (in_use es count)
 
+-- the value beside the first key that is n
+abbrev pub lookup : {X : Type 0} → List ℕ → List X → ℕ → Option X
+lookup [] vs n = None
+lookup (k ∷ ks) [] n = None
+lookup (k ∷ ks) (v ∷ vs) n = cond (nat_eq n k) (Some v) (lookup ks vs n)
+
 -- the file of each number
 abbrev pub files_in : List Node → (ℕ → Node → List ℕ) → List Entry → ℕ → Files
-files_in ns v es count = lookup nat_eq (numbers_of es count) (files_of ns v es count)
+files_in ns v es count = lookup (numbers_of es count) (files_of ns v es count)
 
 -- how many files there are, and how many batches in all of them
 pub record Load : Type 0 where

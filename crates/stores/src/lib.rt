@@ -5,6 +5,7 @@
 //
 // Both keep their files in a directory: which file has which batches, and where each batch lies.
 #![tactic(auto)]
+
 pub mod block;
 pub mod blocks;
 pub mod chains;

@@ -12,4 +12,4 @@ loop-i-preserved c = (numbered_more c.loop-i.entries c.loop-i.i c.loop-i.number 
 pub returns : goal.returns
 returns c =
     let e : c.loop-i.i ≡ 257 = omega (arith, c.loop-i-test.false, c.loop-i.auto.i-end) in
-    blank_made c.loop-i.entries c.args.n _ (subst (λ (k : ℕ). Numbered c.loop-i.entries k) e c.loop-i.invariant.0) c.saturating-sub.ensures
+    blank_made c.loop-i.entries c.args.n _ (subst (λ (k : ℕ). Numbered c.loop-i.entries k) e c.loop-i.invariant.0) c.saturating_sub.ensures

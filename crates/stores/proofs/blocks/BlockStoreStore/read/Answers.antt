@@ -7,10 +7,10 @@ use Rattle.stores.proofs.Blocking.{read_in, read_value}
 use Rattle.stores.proofs.Replies.{read_none, read_some}
 use Rattle.stores.proofs.blocks.BlockStoreStore.read.Goals as goal
 
-pub returns-in-default : goal.returns-in-default
-returns-in-default c =
+pub returns-in_default : goal.returns-in_default
+returns-in_default c =
     let s = c.args.self.now in
-    let h = read_none (block_files s) c.args.file c.args.batch (located_none _ _ _ _ (order_of s.dir) (block_val (vec_items s.memory.words)) c.args.file c.args.batch c.in-default.ensures) in
+    let h = read_none (block_files s) c.args.file c.args.batch (located_none _ _ _ _ (order_of s.dir) (block_val (vec_items s.memory.words)) c.args.file c.args.batch c.in_default.ensures) in
     record { lawful = h.0; after = refl; place = refl; exact = record { reply = h.1; load = refl; size = refl } }
 
 pub fetch-requires : goal.fetch-requires

@@ -11,8 +11,8 @@ returns-then-i-gt0 c =
     let pos = c.if-i-gt0.true in
     let a = c.clear.new.self in
     let k = c.clear.ensures in
-    let d = c.drop-entry.new.self in
-    let e = c.drop-entry.ensures in
+    let d = c.drop_entry.new.self in
+    let e = c.drop_entry.ensures in
     let r = remove_files_is _ _ _ _ (order_of s.dir) (block_val (vec_items s.memory.words)) c.seek-i.result c.args.file pos c.seek-i.ensures.within (c.seek-i.ensures.found pos)
     (vec_items a.nodes) a.entries a.count a.next (order_of a) k.cleared k.empty k.rest.0
     (vec_items d.nodes) d.entries d.count _ d.next e.rest.1 e.entries e.rest.0 (order_of d) in

@@ -11,11 +11,11 @@ at-hop-requires c = hop_in (vec_items c.args.self.now.nodes) c.args.self.now.jum
 pub at-leap-requires : goal.at-leap-requires
 at-leap-requires c = leap_in (vec_items c.args.self.now.nodes) c.args.self.now.jumps _ _ _ c.requires c.at-near.ensures c.at-hop.ensures
 
-pub overflow-sub-near : goal.overflow-sub-near
-overflow-sub-near c = near_sub (vec_items c.args.self.now.nodes) c.args.self.now.jumps _ _ _ c.requires c.at-near.ensures c.at-hop.ensures
+pub overflow_sub-near : goal.overflow_sub-near
+overflow_sub-near c = near_sub (vec_items c.args.self.now.nodes) c.args.self.now.jumps _ _ _ c.requires c.at-near.ensures c.at-hop.ensures
 
-pub overflow-sub-hop : goal.overflow-sub-hop
-overflow-sub-hop c = hop_sub (vec_items c.args.self.now.nodes) c.args.self.now.jumps _ _ _ _ c.requires c.at-near.ensures c.at-hop.ensures c.at-leap.ensures
+pub overflow_sub-hop : goal.overflow_sub-hop
+overflow_sub-hop c = hop_sub (vec_items c.args.self.now.nodes) c.args.self.now.jumps _ _ _ _ c.requires c.at-near.ensures c.at-hop.ensures c.at-leap.ensures
 
 pub returns-then-near-hop : goal.returns-then-near-hop
 returns-then-near-hop c = far_then (vec_items c.args.self.now.nodes) _ _ _ _ c.at-near.ensures c.at-hop.ensures c.at-leap.ensures c.if-near-hop.true

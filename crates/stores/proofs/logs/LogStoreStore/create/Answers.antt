@@ -8,8 +8,12 @@ use Rattle.stores.proofs.Logging.{keeps_same}
 use Rattle.stores.proofs.Replies.{create_replies}
 use Rattle.stores.proofs.logs.LogStoreStore.create.Goals as goal
 
-pub invariant-of-self : goal.invariant-of-self
-invariant-of-self c = let e = c.create.ensures in keeps_same c.args.self.now (vec_items c.create.new.self.nodes) c.create.new.self.entries e.rest.1 (ap (λ (x : List Entry). (entry x 0).len) e.rest.0)
+pub invariant_of-self : goal.invariant_of-self
+invariant_of-self c =
+    let e = c.create.ensures in
+    let o =
+    keeps_same c.args.self.now (vec_items c.create.new.self.nodes) c.create.new.self.entries e.rest.1 (ap (λ (x : List Entry). (entry x 0).len) e.rest.0) in
+    record { within = o.0; low = o.1.0; short = o.1.1.0; mark = o.1.1.1.0; enough = o.1.1.1.1.0; thin = o.1.1.1.1.1.0 }
 
 pub returns : goal.returns
 returns c =

@@ -7,10 +7,10 @@ use Rattle.stores.proofs.Logging.{record_in, record_short, record_value}
 use Rattle.stores.proofs.Replies.{read_none, read_some}
 use Rattle.stores.proofs.logs.LogStoreStore.read.Goals as goal
 
-pub returns-in-default : goal.returns-in-default
-returns-in-default c =
+pub returns-in_default : goal.returns-in_default
+returns-in_default c =
     let s = c.args.self.now in
-    let h = read_none (log_files s) c.args.file c.args.batch (located_none _ _ _ _ (order_of s.dir) (log_val (log_words s)) c.args.file c.args.batch c.in-default.ensures) in
+    let h = read_none (log_files s) c.args.file c.args.batch (located_none _ _ _ _ (order_of s.dir) (log_val (log_words s)) c.args.file c.args.batch c.in_default.ensures) in
     record { lawful = h.0; after = refl; place = refl; exact = record { reply = h.1; load = refl; end = refl; words = refl } }
 
 pub fetch-requires : goal.fetch-requires

@@ -15,23 +15,27 @@ returns-then-i-eq0 c =
     let e = none_there _ _ _ _ (order_of s.dir) (log_val (log_words s)) c.args.file none (log_load s) in
     record { after = r.0; exact = record { reply = refl; load = r.1; end = sym (cond-false _ 0 s.end e); words = sym (cond-false _ _ (log_words s) e) } }
 
-pub invariant-of-self : goal.invariant-of-self
-invariant-of-self c =
-    let d = c.drop-entry.new.self in
-    restart_keeps c.args.self.now c.seek-i.result _ (vec_items d.nodes) _ d.entries c.clear.ensures.cleared c.drop-entry.ensures.rest.1 d.count d.next (order_of d) c.if-self-eq0.true _ c.mark.ensures
+pub invariant_of-self : goal.invariant_of-self
+invariant_of-self c =
+    let d = c.drop_entry.new.self in
+    let o =
+    restart_keeps c.args.self.now c.seek-i.result _ (vec_items d.nodes) _ d.entries c.clear.ensures.cleared c.drop_entry.ensures.rest.1 d.count d.next (order_of d) c.if-self-eq0.true _ c.mark.ensures in
+    record { within = o.0; low = o.1.0; short = o.1.1.0; mark = o.1.1.1.0; enough = o.1.1.1.1.0; thin = o.1.1.1.1.1.0 }
 
-pub invariant-of-self-else-self-eq0 : goal.invariant-of-self-else-self-eq0
-invariant-of-self-else-self-eq0 c =
+pub invariant_of-self-else-self-eq0 : goal.invariant_of-self-else-self-eq0
+invariant_of-self-else-self-eq0 c =
     let s = c.args.self.now in
     let pos : 0 < c.seek-i.result = omega (arith, c.if-i-eq0.false) in
     let a = c.clear.new.self in
     let k = c.clear.ensures in
-    let d = c.drop-entry.new.self in
-    let e = c.drop-entry.ensures in
+    let d = c.drop_entry.new.self in
+    let e = c.drop_entry.ensures in
     let r = remove_files_is _ _ _ _ (order_of s.dir) (log_val (log_words s)) c.seek-i.result c.args.file pos c.seek-i.ensures.within (c.seek-i.ensures.found pos)
     (vec_items a.nodes) a.entries a.count a.next (order_of a) k.cleared k.empty k.rest.0
     (vec_items d.nodes) d.entries d.count _ d.next e.rest.1 e.entries e.rest.0 (order_of d) in
-    remove-keeps s c.seek-i.result c.args.file _ (vec_items d.nodes) _ d.entries k.cleared e.rest.1 d.count d.next (order_of d) r.1
+    let o =
+    remove-keeps s c.seek-i.result c.args.file _ (vec_items d.nodes) _ d.entries k.cleared e.rest.1 d.count d.next (order_of d) r.1 in
+    record { within = o.0; low = o.1.0; short = o.1.1.0; mark = o.1.1.1.0; enough = o.1.1.1.1.0; thin = o.1.1.1.1.1.0 }
 
 pub returns-then-self-eq0 : goal.returns-then-self-eq0
 returns-then-self-eq0 c =
@@ -39,8 +43,8 @@ returns-then-self-eq0 c =
     let pos : 0 < c.seek-i.result = omega (arith, c.if-i-eq0.false) in
     let a = c.clear.new.self in
     let k = c.clear.ensures in
-    let d = c.drop-entry.new.self in
-    let e = c.drop-entry.ensures in
+    let d = c.drop_entry.new.self in
+    let e = c.drop_entry.ensures in
     let w = c.seek-i.ensures.within in
     let g = c.seek-i.ensures.found pos in
     let r = remove_files_is _ _ _ _ (order_of s.dir) (log_val (log_words s)) c.seek-i.result c.args.file pos w g
@@ -56,8 +60,8 @@ returns-else-self-eq0 c =
     let pos : 0 < c.seek-i.result = omega (arith, c.if-i-eq0.false) in
     let a = c.clear.new.self in
     let k = c.clear.ensures in
-    let d = c.drop-entry.new.self in
-    let e = c.drop-entry.ensures in
+    let d = c.drop_entry.new.self in
+    let e = c.drop_entry.ensures in
     let w = c.seek-i.ensures.within in
     let g = c.seek-i.ensures.found pos in
     let r = remove_files_is _ _ _ _ (order_of s.dir) (log_val (log_words s)) c.seek-i.result c.args.file pos w g
