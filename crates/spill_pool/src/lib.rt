@@ -484,8 +484,8 @@ impl<P: Payload> SpillPool<P> {
 
     // Reads the next batch of the oldest file. Where that fails nothing moves, and the next poll reads the same batch.
     pub fn poll<S: Store>(&mut self, disk: &mut Disk<S>) -> Result<PoolPoll<P>, Refusal>
-        ensures law { Polls (kind_by P-as-Payload.width P-as-Payload.rows_of P-as-Payload.size_of P-as-Payload.words P-as-Payload.reading) self.old (view disk.old.places) (S.Store.files disk.old.store) self.new (view disk.new.places) (S.Store.files disk.new.store) result }
-        ensures history { Chronicles polling (kind_by P-as-Payload.width P-as-Payload.rows_of P-as-Payload.size_of P-as-Payload.words P-as-Payload.reading) self.old (view disk.old.places) (S.Store.files disk.old.store) self.new (view disk.new.places) (S.Store.files disk.new.store) result }
+        ensures law { Polls (kind_by P.Payload.width P.Payload.rows_of P.Payload.size_of P.Payload.words P.Payload.reading) self.old (view disk.old.places) (S.Store.files disk.old.store) self.new (view disk.new.places) (S.Store.files disk.new.store) result }
+        ensures history { Chronicles polling (kind_by P.Payload.width P.Payload.rows_of P.Payload.size_of P.Payload.words P.Payload.reading) self.old (view disk.old.places) (S.Store.files disk.old.store) self.new (view disk.new.places) (S.Store.files disk.new.store) result }
         ensures refused { Refuses self.old (view disk.old.places) disk.old.store self.new (view disk.new.places) disk.new.store result }
         ensures unfit { Unfit self.old (view disk.old.places) result }
         ensures same { disk.new.places.cells.ghost_name ≡ disk.old.places.cells.ghost_name }
@@ -517,8 +517,8 @@ impl<P: Payload> SpillPool<P> {
 
     // Closes a sink. The last one finishes the open file, which is marked finished even where that fails; the fault is told.
     pub fn close_sink<S: Store>(&mut self, disk: &mut Disk<S>) -> Result<Option<Fault>, Refusal>
-        ensures law { Closes (kind_by P-as-Payload.width P-as-Payload.rows_of P-as-Payload.size_of P-as-Payload.words P-as-Payload.reading) self.old (view disk.old.places) (S.Store.files disk.old.store) self.new (view disk.new.places) (S.Store.files disk.new.store) result }
-        ensures history { Chronicles closing (kind_by P-as-Payload.width P-as-Payload.rows_of P-as-Payload.size_of P-as-Payload.words P-as-Payload.reading) self.old (view disk.old.places) (S.Store.files disk.old.store) self.new (view disk.new.places) (S.Store.files disk.new.store) result }
+        ensures law { Closes (kind_by P.Payload.width P.Payload.rows_of P.Payload.size_of P.Payload.words P.Payload.reading) self.old (view disk.old.places) (S.Store.files disk.old.store) self.new (view disk.new.places) (S.Store.files disk.new.store) result }
+        ensures history { Chronicles closing (kind_by P.Payload.width P.Payload.rows_of P.Payload.size_of P.Payload.words P.Payload.reading) self.old (view disk.old.places) (S.Store.files disk.old.store) self.new (view disk.new.places) (S.Store.files disk.new.store) result }
         ensures refused { Refuses self.old (view disk.old.places) disk.old.store self.new (view disk.new.places) disk.new.store result }
         ensures unfit { Unfit self.old (view disk.old.places) result }
         ensures same { disk.new.places.cells.ghost_name ≡ disk.old.places.cells.ghost_name }
@@ -549,8 +549,8 @@ impl<P: Payload> SpillPool<P> {
 
     // Removes all files, for a stream that closes.
     pub fn remove_all<S: Store>(&mut self, disk: &mut Disk<S>) -> Result<(), Refusal>
-        ensures law { Removes (kind_by P-as-Payload.width P-as-Payload.rows_of P-as-Payload.size_of P-as-Payload.words P-as-Payload.reading) self.old (view disk.old.places) (S.Store.files disk.old.store) self.new (view disk.new.places) (S.Store.files disk.new.store) result }
-        ensures history { Chronicles removing (kind_by P-as-Payload.width P-as-Payload.rows_of P-as-Payload.size_of P-as-Payload.words P-as-Payload.reading) self.old (view disk.old.places) (S.Store.files disk.old.store) self.new (view disk.new.places) (S.Store.files disk.new.store) result }
+        ensures law { Removes (kind_by P.Payload.width P.Payload.rows_of P.Payload.size_of P.Payload.words P.Payload.reading) self.old (view disk.old.places) (S.Store.files disk.old.store) self.new (view disk.new.places) (S.Store.files disk.new.store) result }
+        ensures history { Chronicles removing (kind_by P.Payload.width P.Payload.rows_of P.Payload.size_of P.Payload.words P.Payload.reading) self.old (view disk.old.places) (S.Store.files disk.old.store) self.new (view disk.new.places) (S.Store.files disk.new.store) result }
         ensures refused { Refuses self.old (view disk.old.places) disk.old.store self.new (view disk.new.places) disk.new.store result }
         ensures unfit { Unfit self.old (view disk.old.places) result }
         ensures same { disk.new.places.cells.ghost_name ≡ disk.old.places.cells.ghost_name }

@@ -7,9 +7,9 @@ loop-init g c = (clears_none _ _ _, refl, refl)
 
 pub loop-preserved : goal.loop-preserved
 loop-preserved g c = (
-  clears_more c.loop.counter _ c.args.files.now _ _ _ _ _ _ _ (omega arith) c.loop.invariant.0 c.remove-oldest.ensures.law,
-  c.remove-oldest.ensures.same ∙ c.loop.invariant.1,
-  c.remove-oldest.ensures.size ∙ c.loop.invariant.2,
+  clears_more c.loop.counter _ c.args.files.now _ _ _ _ _ _ _ (omega arith) c.loop.invariant.0 c.remove_oldest.ensures.law,
+  c.remove_oldest.ensures.same ∙ c.loop.invariant.1,
+  c.remove_oldest.ensures.size ∙ c.loop.invariant.2,
 )
 
 pub returns : goal.returns

@@ -9,9 +9,9 @@ returns-in-Some g c = record {
   size = c.take.ensures.size;
 }
 
-pub returns-in-default : goal.returns-in-default
-returns-in-default g c = record {
-  law = removes_none _ _ _ _ _ _ c.in-default.ensures.law;
+pub returns-in_default : goal.returns-in_default
+returns-in_default g c = record {
+  law = removes_none _ _ _ _ _ _ c.in_default.ensures.law;
   same = c.take.ensures.same;
   size = c.take.ensures.size;
 }

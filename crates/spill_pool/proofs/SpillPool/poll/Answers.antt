@@ -18,10 +18,10 @@ returns-then-self-size g c =
     let l = polls_unfit (kind g) (lawful g) c.args.self.now (view c.args.disk.now.places) (g.S.Store.files c.args.disk.now.store) (λ e. c.if-self-size.true (e ∙ sym c.size.ensures)) in
     record { law = l; history = poll_history (kind g) (lawful g) _ _ _ _ _ _ _ l; refused = λ _. (refl, refl, refl); unfit = λ _. refl; same = refl; steady = record { partition = refl; maximum = refl; places = refl; size = refl } }
 
-pub returns-in-default : goal.returns-in-default
-returns-in-default g c =
+pub returns-in_default : goal.returns-in_default
+returns-in_default g c =
     let f = c.if-self-size.false ∙ c.size.ensures in
-    let l = polls_none (kind g) (lawful g) c.args.self.now (view c.args.disk.now.places) (g.S.Store.files c.args.disk.now.store) f c.resting.result c.resting.ensures c.in-default.ensures in
+    let l = polls_none (kind g) (lawful g) c.args.self.now (view c.args.disk.now.places) (g.S.Store.files c.args.disk.now.store) f c.resting.result c.resting.ensures c.in_default.ensures in
     record { law = l; history = poll_history (kind g) (lawful g) _ _ _ _ _ _ _ l; refused = λ e. absurd (both_ways true e refl); unfit = λ e. absurd (both_ways _ e (eq-eqb _ _ f)); same = refl; steady = record { partition = refl; maximum = refl; places = refl; size = refl } }
 
 pub returns-then-file : goal.returns-then-file
@@ -33,11 +33,11 @@ returns-then-file g c =
 pub returns-in-Err : goal.returns-in-Err
 returns-in-Err g c =
     let f = c.if-self-size.false ∙ c.size.ensures in
-    let l = polls_faulty (kind g) (lawful g) c.args.self.now (view c.args.disk.now.places) (g.S.Store.files c.args.disk.now.store) f c.in-Some.oldest.now c.in-Some.ensures c.if-file.false c.index-of.result c.index-of.ensures _ c.in-Err.cause _ c.in-Err.ensures.lawful c.in-Err.ensures.after c.of-store-fault.ensures in
+    let l = polls_faulty (kind g) (lawful g) c.args.self.now (view c.args.disk.now.places) (g.S.Store.files c.args.disk.now.store) f c.in-Some.oldest.now c.in-Some.ensures c.if-file.false c.index_of.result c.index_of.ensures _ c.in-Err.cause _ c.in-Err.ensures.lawful c.in-Err.ensures.after c.of_store-fault.ensures in
     record { law = l; history = poll_history (kind g) (lawful g) _ _ _ _ _ _ _ l; refused = λ e. absurd (both_ways true e refl); unfit = λ e. absurd (both_ways _ e (eq-eqb _ _ f)); same = refl; steady = record { partition = refl; maximum = refl; places = refl; size = refl } }
 
 pub returns : goal.returns
 returns g c =
     let f = c.if-self-size.false ∙ c.size.ensures in
-    let l = polls_batch (kind g) (lawful g) c.args.self.now (view c.args.disk.now.places) (g.S.Store.files c.args.disk.now.store) f c.in-Some.oldest.now c.in-Some.ensures c.if-file.false c.index-of.result c.index-of.ensures _ _ _ _ c.in-default-read.field-0 _ _ _ _ c.in-default-read.ensures.lawful c.in-default-read.ensures.after c.in-default-read.ensures.place c.read-2.ensures c.read-on.ensures c.advance.ensures.law refl refl refl in
+    let l = polls_batch (kind g) (lawful g) c.args.self.now (view c.args.disk.now.places) (g.S.Store.files c.args.disk.now.store) f c.in-Some.oldest.now c.in-Some.ensures c.if-file.false c.index_of.result c.index_of.ensures _ _ _ _ c.in_default-read.field-0 _ _ _ _ c.in_default-read.ensures.lawful c.in_default-read.ensures.after c.in_default-read.ensures.place c.read-2.ensures c.read_on.ensures c.advance.ensures.law refl refl refl in
     record { law = l; history = poll_history (kind g) (lawful g) _ _ _ _ _ _ _ l; refused = λ e. absurd (both_ways true e refl); unfit = λ e. absurd (both_ways _ e (eq-eqb _ _ f)); same = c.advance.ensures.same; steady = record { partition = refl; maximum = refl; places = refl; size = c.advance.ensures.size } }

@@ -34,10 +34,10 @@ pub returns-then-current : goal.returns-then-current
 returns-then-current g c =
     let f = c.if-self-size.false ∙ c.size.ensures in
     let l = pushes_to_open (kind g) (lawful g) c.args.batch.now c.args.self.now (view c.args.disk.now.places) (g.S.Store.files c.args.disk.now.store) f c.if-self-eq0.false (λ e. c.if-rows-eq0.false (c.rows.ensures ∙ e))
-    _ _ _ c.push-open-answer.result refl refl c.size-then-current.result _ c.size-then-current.ensures
+    _ _ _ c.push_open-answer.result refl refl c.size-then-current.result _ c.size-then-current.ensures
     (front_words c.width.result g.P.Payload.width (g.P.Payload.words c.args.batch.now) _ c.write.new.place c.write.ensures c.width.ensures (g.met.P.Payload.long c.args.batch.now))
-    c.if-current.true c.push-open-answer.ensures.law in
-    record { law = l; history = push-history (kind g) (lawful g) c.args.batch.now _ _ _ _ _ _ _ l; refused = λ e. absurd (both_ways true e refl); unfit = λ e. absurd (both_ways _ e (eq-eqb _ _ f)); same = c.push-open-answer.ensures.same; steady = record { partition = refl; maximum = refl; places = refl; size = c.push-open-answer.ensures.size } }
+    c.if-current.true c.push_open-answer.ensures.law in
+    record { law = l; history = push-history (kind g) (lawful g) c.args.batch.now _ _ _ _ _ _ _ l; refused = λ e. absurd (both_ways true e refl); unfit = λ e. absurd (both_ways _ e (eq-eqb _ _ f)); same = c.push_open-answer.ensures.same; steady = record { partition = refl; maximum = refl; places = refl; size = c.push_open-answer.ensures.size } }
 
 pub returns-then-free-eq0 : goal.returns-then-free-eq0
 returns-then-free-eq0 g c =
@@ -50,7 +50,7 @@ pub returns : goal.returns
 returns g c =
     let f = c.if-self-size.false ∙ c.size.ensures in
     let l = pushes_to_new (kind g) (lawful g) c.args.batch.now c.args.self.now (view c.args.disk.now.places) (g.S.Store.files c.args.disk.now.store) f c.if-self-eq0.false (λ e. c.if-rows-eq0.false (c.rows.ensures ∙ e))
-    _ _ _ c.push-new-answer.result refl refl c.size-2.result _ c.size-2.ensures
+    _ _ _ c.push_new-answer.result refl refl c.size-2.result _ c.size-2.ensures
     (front_words c.width.result g.P.Payload.width (g.P.Payload.words c.args.batch.now) _ c.write.new.place c.write.ensures c.width.ensures (g.met.P.Payload.long c.args.batch.now))
-    c.if-current.false (λ e. c.if-free-eq0.false (c.free.ensures.0 ∙ e)) c.push-new-answer.ensures.law in
-    record { law = l; history = push-history (kind g) (lawful g) c.args.batch.now _ _ _ _ _ _ _ l; refused = λ e. absurd (both_ways true e refl); unfit = λ e. absurd (both_ways _ e (eq-eqb _ _ f)); same = c.push-new-answer.ensures.same; steady = record { partition = refl; maximum = refl; places = refl; size = c.push-new-answer.ensures.size } }
+    c.if-current.false (λ e. c.if-free-eq0.false (c.free.ensures.0 ∙ e)) c.push_new-answer.ensures.law in
+    record { law = l; history = push-history (kind g) (lawful g) c.args.batch.now _ _ _ _ _ _ _ l; refused = λ e. absurd (both_ways true e refl); unfit = λ e. absurd (both_ways _ e (eq-eqb _ _ f)); same = c.push_new-answer.ensures.same; steady = record { partition = refl; maximum = refl; places = refl; size = c.push_new-answer.ensures.size } }
