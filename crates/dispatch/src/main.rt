@@ -3,6 +3,8 @@
 // Reads notices from standard input, one a line: `feed room id`, in decimal, feed and room from 0 to 31. Prints each action
 // as it happens, and at the end what each room was given.
 #![tactic(auto)]
+
+use anyhow::anyhow;
 use bank::Cell;
 use distributor_channels::Entry;
 use executor::run::{Halt, deliver};
@@ -138,8 +140,8 @@ fn cells<T: Drop>(heap: Global, n: usize) -> Result<Vec<Cell<T>>, AllocError> {
 // Why a delivery stopped.
 fn reason(halt: Halt) -> anyhow::Error {
     match halt {
-        Halt::Refused(_) => "a call was refused".into(),
-        Halt::Memory => "no memory is left".into(),
+        Halt::Refused(_) => anyhow!("a call was refused"),
+        Halt::Memory => anyhow!("no memory is left"),
         Halt::Output(e) => e.into(),
     }
 }
