@@ -272,12 +272,12 @@ fn logs(rt: HostRuntime) -> Result<(), Fail> {
     let mut store = log_store(rt.alloc(), 8)?;
     let mut place = [9; 64];
     assert!(rt;
-        store.words() == [0, 9, 9, 9, 9, 9, 9, 9],
+        store.words() == [0, 9, 9, 9, 9, 9, 9, 9].as_slice(),
         "a zero word begins an empty run"
     );
     let f = store.create()?;
     store.append(f, &[5])?;
-    assert!(rt; store.words() == [1, 1, 5, 0, 9, 9, 9, 9]);
+    assert!(rt; store.words() == [1, 1, 5, 0, 9, 9, 9, 9].as_slice());
     assert_eq!(rt;
         store.append(f, &[1, 2, 3, 4]),
         Err(Cause::NoSpace),
@@ -285,7 +285,7 @@ fn logs(rt: HostRuntime) -> Result<(), Fail> {
     );
     store.append(f, &[6, 7, 8])?;
     assert!(rt;
-        store.words() == [1, 1, 5, 1, 3, 6, 7, 8],
+        store.words() == [1, 1, 5, 1, 3, 6, 7, 8].as_slice(),
         "exactly full, without room for the zero word"
     );
     assert_eq!(rt; store.append(f, &[1]), Err(Cause::NoSpace));
@@ -303,7 +303,7 @@ fn logs(rt: HostRuntime) -> Result<(), Fail> {
     assert_eq!(rt; store.finish(g), Err(Cause::Misuse));
     store.remove(g);
     assert!(rt;
-        store.words() == [0, 1, 5, 1, 3, 6, 7, 8],
+        store.words() == [0, 1, 5, 1, 3, 6, 7, 8].as_slice(),
         "the run restarts"
     );
     Ok(())
