@@ -1,5 +1,5 @@
 // What a block store does.
-ghost use Rattle.std.specs.Prelude.{◌≡◌, ℕ, ◌/◌, ◌≤◌, ◌&&◌, length, vec_len, MatchResult, nat_le, nat_lt};
+ghost use Rattle.std.specs.Prelude.{◌≡◌, ℕ, ◌/◌, ◌≤◌, ◌&&◌, length, vec_len, MatchResult, OnOk, nat_le, nat_lt};
 ghost use Rattle.refusal.specs.declared.Refusal.TheVariants.{Lengths};
 ghost use Rattle.stores.specs.Stores.{block_files, BlockSteps, BlockOpened, Fit, Unfit};
 
@@ -78,7 +78,8 @@ impl Store for BlockStore {
 impl BlockStore {
     // A store without files over these words: a block for each 64 words, 4,096 at most, and a node for each block.
     pub fn new(words: Vec<u64>, nodes: Vec<Node>) -> Result<BlockStore, Refusal>
-        ensures { MatchResult result (λ s. BlockOpened (vec_len words) s × Fit (vec_len words) (vec_len nodes)) (λ e. (e ≡ Lengths) × Unfit (vec_len words) (vec_len nodes)) }
+        ensures opened { MatchResult result (λ s. BlockOpened (vec_len words) s) (λ e. (e ≡ Lengths) × Unfit (vec_len words) (vec_len nodes)) }
+        ensures fits { OnOk result (Fit (vec_len words) (vec_len nodes)) }
     {
         if words.len() > STORE_WORDS {
             return Err(Refusal::Lengths);

@@ -1,5 +1,5 @@
 // What a log store does.
-ghost use Rattle.std.specs.Prelude.{◌≡◌, ℕ, ◌≤◌, length, vec_len, MatchResult};
+ghost use Rattle.std.specs.Prelude.{◌≡◌, ℕ, ◌≤◌, length, vec_len, MatchResult, OnOk};
 ghost use Rattle.refusal.specs.declared.Refusal.TheVariants.{Lengths};
 ghost use Rattle.stores.specs.Stores.{log_files, log_words, LogSteps, LogOpened, Fitting, Unfitting};
 
@@ -80,7 +80,8 @@ impl Store for LogStore {
 impl LogStore {
     // A store without files over these words, all of them the run, and a node for each record that finds room.
     pub fn new(words: Vec<u64>, nodes: Vec<Node>) -> Result<LogStore, Refusal>
-        ensures { MatchResult result (λ s. LogOpened words.items s × Fitting (vec_len words) (vec_len nodes)) (λ e. (e ≡ Lengths) × Unfitting (vec_len words) (vec_len nodes)) }
+        ensures opened { MatchResult result (λ s. LogOpened words.items s) (λ e. (e ≡ Lengths) × Unfitting (vec_len words) (vec_len nodes)) }
+        ensures fits { OnOk result (Fitting (vec_len words) (vec_len nodes)) }
     {
         if words.len() > STORE_WORDS {
             return Err(Refusal::Lengths);
