@@ -1,11 +1,10 @@
 -- Cells in a row are a chain of free cells. Assumes nothing.
-use Rattle.std.proofs.Common.{◌≡◌, ℕ, zero, suc, ◌+◌, ◌-◌, ◌<◌, ◌≤◌, List, [], ◌∷◌, ◌++◌, map, length, get_or, replicate, Some, None, Option, sym, refl, ap, ◌∙◌, append-nil, arith}
-use lib.ListN.{length-replicate, get_or-replicate}
+use Rattle.std.proofs.Common.{◌≡◌, ℕ, zero, suc, ◌+◌, ◌-◌, ◌<◌, ◌≤◌, List, [], length, replicate, None, Option, sym, refl, ap, ◌∙◌, append-nil, arith}
+use lib.ListN.{length-replicate}
 use Rattle.bank.specs.declared.Cell.{Cell}
 use Rattle.bank.specs.declared.Queue.{Queue}
-use Rattle.bank.specs.Lists.{list, total}
 use Rattle.bank.specs.Cells.{at, cell, empty}
-use Rattle.bank.specs.Chains.{Node, Chain, Holds, Chains}
+use Rattle.bank.specs.Chains.{Node, Chain}
 use Rattle.bank.specs.Banks.{mem, Keeps, Makes}
 use Rattle.bank.proofs.Numbering.{keeps_empties}
 

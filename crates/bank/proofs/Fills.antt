@@ -1,14 +1,14 @@
 -- Another item in the first or the last cell of a chain. Assumes nothing.
-use Rattle.std.proofs.Common.{◌≡◌, ℕ, zero, suc, ◌+◌, ◌<◌, ◌≤◌, ◌≢◌, ◌⊎◌, List, [], ◌∷◌, ◌++◌, length, get_or, set, Option, sym, refl, ap, ◌∙◌, subst, ⊎_elim, arith, length-append, length-set}
+use Rattle.std.proofs.Common.{◌≡◌, ℕ, suc, ◌<◌, ◌≤◌, ◌≢◌, List, [], ◌∷◌, ◌++◌, length, get_or, set, Option, sym, refl, ap, ◌∙◌, subst, ⊎_elim, arith, length-append, length-set}
 use Rattle.std.proofs.lemmas.List.{get_or-set_same, get_or-set_other}
 use Rattle.std.proofs.lemmas.Bool.{cases_eq}
 use Rattle.bank.specs.declared.Cell.{Cell}
 use Rattle.bank.specs.declared.Queue.{Queue}
-use Rattle.bank.specs.Lists.{list, total}
+use Rattle.bank.specs.Lists.{list}
 use Rattle.bank.specs.Cells.{at, cell, empty, filled}
 use Rattle.bank.specs.Chains.{Node, Chain, Holds, Chains}
 use Rattle.bank.specs.Banks.{Is}
-use Rattle.bank.proofs.Frames.{first_node, rest_chain, last_owner, not_last, node_same, frame}
+use Rattle.bank.proofs.Frames.{first_node, not_last, node_same, frame}
 use Rattle.bank.proofs.Links.{total-set, holds_at}
 
 module _ {T : Type 0} (own pos : ℕ → ℕ) (cs : List (Cell T)) (i : ℕ) (x : Option T) (il : i < length cs) where

@@ -1,5 +1,5 @@
 -- Chains whose cells, or some of whose cells, stay as they were. Assumes nothing.
-use Rattle.std.proofs.Common.{◌≡◌, ℕ, suc, ◌<◌, ◌≤◌, ◌≢◌, List, [], ◌∷◌, ◌++◌, length, Option, sym, refl, ap, ◌∙◌, subst, arith}
+use Rattle.std.proofs.Common.{◌≡◌, ℕ, suc, ◌<◌, ◌≤◌, ◌≢◌, List, [], ◌∷◌, ◌++◌, length, Option, ap, ◌∙◌, subst, arith}
 use Rattle.bank.specs.declared.Cell.{Cell}
 use Rattle.bank.specs.Cells.{at, cell}
 use Rattle.bank.specs.Chains.{Node, Chain}

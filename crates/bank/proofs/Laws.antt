@@ -1,13 +1,13 @@
 -- Laws for callers: what may be concluded of a memory in good order without a look at its cells. Assumes nothing.
-use Rattle.std.proofs.Common.{◌≡◌, ℕ, zero, suc, ◌+◌, ◌<◌, ◌≤◌, ◌≢◌, List, [], ◌∷◌, ◌++◌, map, length, get_or, set, replicate, Some, None, Option, sym, refl, ap, ◌∙◌, arith, length-set}
+use Rattle.std.proofs.Common.{◌≡◌, ℕ, suc, ◌+◌, ◌<◌, ◌≤◌, ◌≢◌, List, [], ◌∷◌, map, length, get_or, set, Some, None, Option, refl, ap, ◌∙◌, arith, length-set}
 use lib.ListN.{length-map, length-replicate}
 use Rattle.std.proofs.lemmas.List.{ext_get_or, get_or-map, get_or-set_same, get_or-set_other}
 use Rattle.bank.specs.declared.Cell.{Cell}
 use Rattle.bank.specs.declared.Queue.{Queue}
-use Rattle.bank.specs.Lists.{list, put, total}
+use Rattle.bank.specs.Lists.{list, total}
 use Rattle.bank.specs.Cells.{at, empty}
 use Rattle.bank.specs.Chains.{Chain}
-use Rattle.bank.specs.Banks.{Mem, mem, Is, size, freed, Keeps, before, walk, lists, Counts, Measures}
+use Rattle.bank.specs.Banks.{Mem, Is, size, freed, Keeps, before, walk, lists, Counts, Measures}
 use Rattle.bank.proofs.Links.{holds_at, total-at}
 use Rattle.bank.proofs.Numbering.{total_some}
 use Rattle.bank.proofs.Steps.{same_many, opened, chain_is, list_is, len_is}

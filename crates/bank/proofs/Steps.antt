@@ -1,15 +1,15 @@
 -- What each call of the bank does to the lists. Assumes nothing.
-use Rattle.std.proofs.Common.{◌≡◌, ℕ, zero, suc, ◌+◌, ◌-◌, ◌<◌, ◌≤◌, Bool, true, false, cond, ltb, ◌≢◌, ◌⊎◌, List, [], ◌∷◌, ◌++◌, map, length, get_or, set, replicate, is_some, Some, None, Ok, Err, Option, Result, sym, refl, ap, ◌∙◌, subst, inl, inr, ⊎_elim, arith, length-set}
+use Rattle.std.proofs.Common.{◌≡◌, ℕ, suc, ◌+◌, ◌-◌, ◌<◌, Bool, true, false, ◌≢◌, List, [], ◌∷◌, ◌++◌, map, length, set, replicate, is_some, Some, None, Ok, Err, Option, Result, sym, refl, ap, ◌∙◌, arith, length-set}
 use native.Mathlib.Nat.{suc_inj}
-use lib.ListN.{length-map, length-replicate}
-use Rattle.std.proofs.lemmas.List.{get_or-set_same, get_or-set_other, get_or-map, set-get_or, set-set, map-set, map_push, replicate_more}
+use lib.ListN.{length-map}
+use Rattle.std.proofs.lemmas.List.{get_or-set_same, get_or-map, set-get_or, set-set, map-set, map_push, replicate_more}
 use Rattle.std.proofs.lemmas.Bool.{le-ltb, and_left, both_ways}
 use Rattle.bank.specs.declared.Cell.{Cell}
 use Rattle.bank.specs.declared.Queue.{Queue}
 use Rattle.bank.specs.Lists.{oldest, rest, newest, older, push, list, put}
-use Rattle.bank.specs.Cells.{at, empty, last_or, longer, shorter, linkable, linked, filled, Relinked, Filled, Emptied, Swapped, Looked}
+use Rattle.bank.specs.Cells.{empty, last_or, linkable, filled, Relinked, Filled, Emptied, Swapped, Looked}
 use Rattle.bank.specs.Chains.{Chains}
-use Rattle.bank.specs.Banks.{Mem, mem, Is, Keeps, freed, Adds, Takes, ReadsOldest, ReadsNewest, Rewrites, moved, Moves}
+use Rattle.bank.specs.Banks.{Mem, mem, Is, Keeps, Adds, Takes, ReadsOldest, ReadsNewest, Rewrites, moved, Moves}
 use Rattle.bank.proofs.Frames.{first_node}
 use Rattle.bank.proofs.Links.{holds_at, link_can, link_chains}
 use Rattle.bank.proofs.Fills.{last_holds, fill_oldest, fill_newest}

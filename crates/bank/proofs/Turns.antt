@@ -1,16 +1,16 @@
 -- Taking elements out, turn by turn, by the laws alone: no cell is looked at. Assumes nothing.
-use Rattle.std.proofs.Common.{◌≡◌, ℕ, zero, suc, ◌+◌, ◌-◌, ◌<◌, ◌≤◌, Bool, true, false, cond, not, ◌≢◌, List, [], ◌∷◌, ◌++◌, length, get_or, take, drop, set, Some, None, filter, Option, sym, refl, ap, ◌∙◌, append_assoc, append-nil, arith, length-set}
-use Rattle.std.proofs.lemmas.List.{get_or-set_same, get_or-set_other, set-get_or, set-set, drop_more, drop_all, take_all}
+use Rattle.std.proofs.Common.{◌≡◌, ℕ, suc, ◌+◌, ◌<◌, ◌≤◌, Bool, true, false, cond, not, List, [], ◌∷◌, ◌++◌, length, get_or, take, drop, set, Some, None, filter, sym, refl, ap, ◌∙◌, append_assoc, append-nil, arith, length-set}
+use Rattle.std.proofs.lemmas.List.{get_or-set_same, set-get_or, set-set, drop_more, drop_all, take_all}
 use Rattle.std.proofs.lemmas.List.Elements.{filter_more}
 use Rattle.bank.specs.declared.Cell.{Cell}
 use Rattle.bank.specs.declared.Queue.{Queue}
 use Rattle.bank.specs.Lists.{oldest, rest, push, without, list, put}
 use Rattle.bank.specs.Cells.{empty, Relinked, Looked}
-use Rattle.bank.specs.Banks.{mem, Is, Keeps, Moves, TakesOut}
+use Rattle.bank.specs.Banks.{mem, Is, Keeps, TakesOut}
 use Rattle.bank.specs.Turning.{turned, passing, Turns, Sifts}
 use Rattle.bank.proofs.Numbering.{keeps_front, keeps_less}
 use Rattle.bank.proofs.Steps.{moves, reads_oldest, set_same}
-use Rattle.bank.proofs.Laws.{is_here, is_there, keeps_same, keeps_len}
+use Rattle.bank.proofs.Laws.{is_here, keeps_same, keeps_len}
 
 module _ {T : Type 0} (f : T → Bool) (cs : List (Cell T)) (q o : Queue) where
   turned_by : (x : T) (xs : List T) → Some x ≡ oldest xs → (turned f xs ≡ rest xs ++ cond (f x) [] (x ∷ [])) × (passing f xs ≡ cond (f x) (x ∷ []) [])

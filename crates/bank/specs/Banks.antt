@@ -1,9 +1,9 @@
 -- What callers of a bank see: a memory keeps lists in queues. Assumes nothing.
-use Rattle.std.specs.Prelude.{◌≡◌, ℕ, zero, suc, ◌+◌, ◌<◌, Bool, true, ◌≢◌, List, [], ◌∷◌, ◌++◌, map, length, replicate, is_some, Some, None, Ok, Err, filter, Option, Result, slice_index_or, slice_set}
+use Rattle.std.specs.Prelude.{◌≡◌, ℕ, zero, suc, ◌+◌, ◌<◌, Bool, true, ◌≢◌, List, [], ◌∷◌, map, length, replicate, is_some, Some, None, Ok, Err, filter, Option, Result, slice_index_or, slice_set}
 use Rattle.bank.specs.declared.Cell.{Cell}
 use Rattle.bank.specs.declared.Queue.{Queue}
 use Rattle.bank.specs.declared.Bank.{Bank}
-use Rattle.bank.specs.Lists.{oldest, rest, newest, older, push, without, list, put, total}
+use Rattle.bank.specs.Lists.{oldest, rest, newest, push, without, list, put, total}
 use Rattle.bank.specs.Cells.{at, empty}
 use Rattle.bank.specs.Chains.{Chains}
 

@@ -1,8 +1,6 @@
 -- The reply to each answer of the channels, and what a call does to them. Assumes nothing.
-use Rattle.std.specs.Prelude.{◌≡◌, ℕ, Ok, Err, Result}
-use Rattle.refusal.specs.declared.Refusal.{Refusal}
+use Rattle.std.specs.Prelude.{◌≡◌, ℕ, Ok, Err}
 use Rattle.distributor_channels.specs.declared.Channels.{Channels}
-use Rattle.distributor_channels.specs.declared.Refused.{Refused}
 use Rattle.distributor_channels.specs.declared.SendPoll.{SendPoll}
 use Rattle.distributor_channels.specs.declared.SendPoll.TheVariants.{Sent, Wait, Closed}
 use Rattle.distributor_channels.specs.declared.ReceivePoll.{ReceivePoll}

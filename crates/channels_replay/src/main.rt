@@ -9,6 +9,7 @@
 // An answer is `opened`, `sent`, `wait`, `closed`, `element x`, `end`, `done` or `refused` and its number; where wakers are
 // named, ` wake` and they follow in order. A line that is no call, or a call with no channels open, is answered `bad`.
 #![tactic(auto)]
+
 ghost use Rattle.std.specs.Prelude.{◌≡◌, ◌≤◌, IfOk, Some, None, vec_len};
 ghost use Rattle.channels_replay.specs.Replies.{send_reply, receive_reply, close_reply, Performs};
 ghost use Rattle.distributor_channels.specs.Calls.{seen};

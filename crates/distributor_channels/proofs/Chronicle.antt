@@ -1,8 +1,8 @@
 -- From a call's equality with its step to the laws of the history that it makes longer. Assumes nothing.
-use Rattle.std.proofs.Common.{◌≡◌, ℕ, List, ◌∷◌, Result}
+use Rattle.std.proofs.Common.{ℕ, List, ◌∷◌, Result}
 use Rattle.distributor_channels.specs.declared.Channels.{Channels}
 use Rattle.distributor_channels.specs.Meaning.{Meaning, Facts, Out}
-use Rattle.distributor_channels.specs.Histories.{Event, Run, Laws}
+use Rattle.distributor_channels.specs.Histories.{Event, Run}
 use Rattle.distributor_channels.specs.Calls.{Mems, facts, Does, Chronicles}
 use Rattle.distributor_channels.proofs.LawsHold.{laws}
 

@@ -1,11 +1,11 @@
 -- The two closes, way by way. Assumes nothing.
-use Rattle.std.proofs.Common.{◌≡◌, ℕ, zero, suc, ◌+◌, ◌-◌, ◌<◌, ◌≤◌, Bool, true, false, cond, not, ◌&&◌, eqb, ltb, List, [], ◌∷◌, ◌++◌, map, length, get_or, take, drop, set, is_some, Some, None, Ok, Err, filter, Option, Result, sym, refl, ap, ◌∙◌, subst, arith}
+use Rattle.std.proofs.Common.{◌≡◌, ℕ, suc, ◌+◌, ◌-◌, ◌<◌, ◌≤◌, true, false, not, eqb, ltb, List, [], ◌∷◌, ◌++◌, map, length, take, set, is_some, Some, None, Ok, Err, filter, Option, sym, refl, ap, ◌∙◌, arith}
 use Rattle.std.proofs.lemmas.List.Filters.{length-filter_both}
 use Rattle.std.proofs.lemmas.Bool.{both_ways, lt-ltb, eq-eqb, ne_eqb}
 use Rattle.refusal.specs.declared.Refusal.{Refusal}
 use Rattle.refusal.specs.declared.Refusal.TheVariants.{Closed as Shut}
 use Rattle.bank.specs.declared.Queue.{Queue}
-use Rattle.bank.specs.Lists.{list, put, without}
+use Rattle.bank.specs.Lists.{list, without}
 use Rattle.bank.specs.Banks.{Mem, Is, Keeps, TakesOut}
 use Rattle.bank.specs.Cells.{empty}
 use Rattle.bank.proofs.Numbering.{keeps_less, keeps_reset}
@@ -14,12 +14,12 @@ use Rattle.std.proofs.lemmas.List.{get_or-set_same, set-set}
 use Rattle.distributor_channels.specs.declared.Entry.{Entry}
 use Rattle.distributor_channels.specs.declared.Channel.{Channel}
 use Rattle.distributor_channels.specs.declared.Channels.{Channels}
-use Rattle.distributor_channels.specs.Meaning.{Chan, Meaning, bit, on, wakers, is_open, open_count, chan, with_receiving, with_senders, unheard}
+use Rattle.distributor_channels.specs.Meaning.{Meaning, bit, on, is_open, chan, with_receiving, with_senders, unheard}
 use Rattle.distributor_channels.specs.Steps.{CloseAnswer, close_sender_step, close_receiver_step}
 use Rattle.distributor_channels.specs.Naming.{Names, Empties}
 use Rattle.distributor_channels.specs.Calls.{records, line_of, record_open, Mems, Others, Mark, mark_of, mark, found, Stands, Represents, facts, Does}
 use Rattle.distributor_channels.proofs.Ways as way
-use Rattle.distributor_channels.proofs.Standing.{take-set, no_sender, within, same_mark, same_senders, same_receiver, is_line, is_wait, line_is, wait_is, same_open, stands_set, waits_kept, lines_kept, count_at, Found}
+use Rattle.distributor_channels.proofs.Standing.{take-set, no_sender, within, same_mark, same_senders, same_receiver, is_line, is_wait, wait_is, same_open, stands_set, waits_kept, lines_kept, count_at, Found}
 use Rattle.distributor_channels.proofs.Sending.{remade, mems, woken_room, finds, finds_not}
 
 -- the record with other entries and senders

@@ -1,14 +1,14 @@
 -- Naming entries, and letting elements go, by the bank's laws alone. Assumes nothing.
-use Rattle.std.proofs.Common.{◌≡◌, ℕ, zero, suc, ◌+◌, ◌-◌, ◌<◌, ◌≤◌, List, [], ◌∷◌, ◌++◌, map, length, get_or, take, drop, set, Some, None, Option, sym, refl, ap, ◌∙◌, subst, append_assoc, arith, length-append, length-drop, length-set}
+use Rattle.std.proofs.Common.{◌≡◌, ℕ, ◌+◌, ◌<◌, ◌≤◌, List, [], ◌∷◌, ◌++◌, length, get_or, take, drop, set, Some, None, Option, sym, refl, ap, ◌∙◌, append_assoc, arith}
 use lib.ListN.{length-map}
 use Rattle.std.proofs.lemmas.List.{get_or-set_same, set-get_or, set-set, drop_all, take_all, drop_more, take_more, map_push, set_at, length-take-le}
 use Rattle.bank.specs.declared.Queue.{Queue}
 use Rattle.bank.specs.Cells.{empty}
 use Rattle.bank.specs.Lists.{oldest, rest, list, put}
-use Rattle.bank.specs.Banks.{Mem, Is, Keeps, Takes}
+use Rattle.bank.specs.Banks.{Mem, Takes}
 use Rattle.bank.proofs.Laws.{is_here, keeps_same, keeps_len}
 use Rattle.distributor_channels.specs.declared.Entry.{Entry}
-use Rattle.distributor_channels.specs.Meaning.{wakers, onto}
+use Rattle.distributor_channels.specs.Meaning.{wakers}
 use Rattle.distributor_channels.specs.Naming.{NamesOne, NamesSome, Names, noted, Drops, Empties}
 
 module _ (i : ℕ) (m : Mem Entry) (q : Queue) (w : List ℕ) (m' : Mem Entry) (q' : Queue) where

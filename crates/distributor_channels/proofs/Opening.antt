@@ -1,16 +1,15 @@
 -- Opening, and counting. Assumes nothing.
-use Rattle.std.proofs.Common.{◌≡◌, ℕ, zero, suc, ◌+◌, ◌-◌, ◌<◌, ◌≤◌, Bool, true, false, cond, ◌&&◌, eqb, ltb, leb, List, [], ◌∷◌, ◌++◌, map, length, get_or, take, set, replicate, Some, None, sym, refl, ap, ◌∙◌, subst, arith}
+use Rattle.std.proofs.Common.{◌≡◌, ℕ, zero, suc, ◌<◌, ◌≤◌, true, ltb, List, [], ◌∷◌, map, length, get_or, replicate, Some, sym, refl, ap, ◌∙◌, arith}
 use lib.ListN.{length-replicate}
 use Rattle.std.proofs.lemmas.List.{take-replicate}
 use Rattle.std.proofs.lemmas.Bool.{lt-ltb, le-leb, eq-eqb, and_from}
-use Rattle.bank.specs.declared.Queue.{Queue}
 use Rattle.bank.specs.Cells.{empty}
 use Rattle.bank.specs.Banks.{Keeps, size}
 use Rattle.bank.proofs.Numbering.{keeps_front, keeps_empties}
 use Rattle.distributor_channels.specs.declared.Channel.{Channel}
 use Rattle.distributor_channels.specs.declared.Channels.{Channels}
-use Rattle.distributor_channels.specs.Meaning.{Chan, Meaning, is_open, open_count, shut, opened}
-use Rattle.distributor_channels.specs.Calls.{records, shut_record, line_of, record_open, tallied, Mems, Others, mark_of, mark, Stands, Represents, facts, Recounts}
+use Rattle.distributor_channels.specs.Meaning.{Chan, is_open, open_count, shut, opened}
+use Rattle.distributor_channels.specs.Calls.{records, shut_record, line_of, record_open, tallied, Mems, Others, mark_of, mark, Represents, facts, Recounts}
 use Rattle.distributor_channels.proofs.Standing.{same_length, same_open}
 
 map-replicate : {A B : Type 0} (f : A → B) (n : ℕ) (a : A) → map f (replicate n a) ≡ replicate n (f a)

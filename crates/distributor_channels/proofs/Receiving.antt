@@ -1,24 +1,23 @@
 -- A receive poll, way by way. Assumes nothing.
-use Rattle.std.proofs.Common.{◌≡◌, ℕ, zero, suc, ◌+◌, ◌-◌, ◌<◌, ◌≤◌, Bool, true, false, cond, ◌&&◌, eqb, ltb, leb, ◌⊎◌, List, [], ◌∷◌, ◌++◌, map, length, get_or, take, drop, set, is_some, is_ok, Some, None, Ok, Err, Option, Result, sym, refl, ap, ◌∙◌, subst, inl, inr, ⊎_elim, arith}
-use Rattle.std.proofs.lemmas.Bool.{both_ways, cases_lt, lt-ltb, ltb-true, ltb-false, eq-eqb, ne_eqb, and_parts, and_from, cases_Bool}
+use Rattle.std.proofs.Common.{◌≡◌, ℕ, suc, ◌+◌, ◌<◌, ◌≤◌, Bool, true, false, eqb, ltb, List, [], ◌∷◌, ◌++◌, map, length, take, set, is_some, is_ok, Some, None, Ok, Err, Option, Result, sym, refl, ap, ◌∙◌, ⊎_elim, arith}
+use Rattle.std.proofs.lemmas.Bool.{both_ways, cases_lt, ltb-true, ltb-false, eq-eqb, ne_eqb, and_parts, and_from, cases_Bool}
 use Rattle.std.proofs.lemmas.List.{get_or-set_same}
 use Rattle.bank.proofs.Laws.{is_here, keeps_same, keeps_len}
 use Rattle.refusal.specs.declared.Refusal.{Refusal}
-use Rattle.refusal.specs.declared.Refusal.TheVariants.{Lengths, Range, Places, Closed as Shut}
+use Rattle.refusal.specs.declared.Refusal.TheVariants.{Places, Closed as Shut}
 use Rattle.bank.specs.declared.Queue.{Queue}
-use Rattle.bank.specs.Lists.{oldest, rest, list, put, push}
-use Rattle.bank.specs.Banks.{Mem, Is, size, freed, Keeps, Adds, Takes}
+use Rattle.bank.specs.Lists.{oldest, rest, list, push}
+use Rattle.bank.specs.Banks.{Mem, Is, freed, Keeps, Adds, Takes}
 use Rattle.distributor_channels.specs.declared.Entry.{Entry}
 use Rattle.distributor_channels.specs.declared.Channel.{Channel}
 use Rattle.distributor_channels.specs.declared.Channels.{Channels}
-use Rattle.distributor_channels.specs.declared.ReceivePoll.{ReceivePoll}
 use Rattle.distributor_channels.specs.declared.ReceivePoll.TheVariants.{Element, End, Wait as Await}
-use Rattle.distributor_channels.specs.Meaning.{Chan, Meaning, Facts, Out, bit, entry, wakers, onto, none, is_open, open_count, chan, with_queue, with_receiving, with_chan, out}
-use Rattle.distributor_channels.specs.Steps.{ReceiveAnswer, find, hand, await, receive_of, receive_step}
+use Rattle.distributor_channels.specs.Meaning.{Meaning, bit, entry, none, is_open, open_count, chan, with_queue, with_receiving, with_chan, out}
+use Rattle.distributor_channels.specs.Steps.{ReceiveAnswer, receive_step}
 use Rattle.distributor_channels.specs.Naming.{Names}
-use Rattle.distributor_channels.specs.Calls.{records, shut_record, line_of, record_open, Mems, Others, mark_of, mark, found, Stands, Represents, facts, Does}
+use Rattle.distributor_channels.specs.Calls.{records, line_of, record_open, Mems, Others, mark_of, mark, found, Stands, Represents, facts, Does}
 use Rattle.distributor_channels.proofs.Ways as way
-use Rattle.distributor_channels.proofs.Standing.{take-set, no_queue, no_sender, none_is, same_length, within, same_mark, same_senders, same_receiver, is_line, is_wait, line_is, wait_is, line_len, stands_set, waits_kept, lines_kept, count_room, Found}
+use Rattle.distributor_channels.proofs.Standing.{take-set, no_queue, none_is, same_length, within, same_mark, same_senders, same_receiver, is_line, is_wait, line_is, wait_is, stands_set, waits_kept, lines_kept, count_room, Found}
 use Rattle.distributor_channels.proofs.Sending.{remade, requeued, mems, woken_room, finds, finds_not}
 
 module _ {T : Type 0} (c : Channels) (ms : Mems T) (k w : ℕ) where

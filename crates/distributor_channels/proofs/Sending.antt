@@ -1,23 +1,22 @@
 -- A send poll, way by way. Assumes nothing.
-use Rattle.std.proofs.Common.{◌≡◌, ℕ, zero, suc, ◌+◌, ◌-◌, ◌<◌, ◌≤◌, Bool, true, false, cond, ◌&&◌, eqb, ltb, leb, ◌⊎◌, List, [], ◌∷◌, ◌++◌, map, length, get_or, take, drop, set, is_some, Some, None, Ok, Err, Option, Result, sym, refl, ap, ◌∙◌, subst, ⊎_elim, arith}
+use Rattle.std.proofs.Common.{◌≡◌, ℕ, suc, ◌+◌, ◌-◌, ◌<◌, ◌≤◌, true, false, cond, ◌&&◌, eqb, ltb, leb, List, [], ◌++◌, map, length, get_or, take, set, is_some, Some, None, Ok, Err, Option, sym, refl, ap, ◌∙◌, subst, ⊎_elim, arith}
 use Rattle.std.proofs.lemmas.Bool.{both_ways, cases_lt, lt-ltb, leb-true, eq-eqb, ne_eqb, and_parts}
 use Rattle.refusal.specs.declared.Refusal.{Refusal}
 use Rattle.refusal.specs.declared.Refusal.TheVariants.{Lengths, Range, Cells, Places, Closed as Shut}
 use Rattle.bank.specs.declared.Queue.{Queue}
-use Rattle.bank.specs.Lists.{list, put, push}
+use Rattle.bank.specs.Lists.{list, push}
 use Rattle.bank.specs.Banks.{Mem, Is, size, freed, Keeps, Adds}
 use Rattle.bank.proofs.Laws.{keeps-fits}
 use Rattle.distributor_channels.specs.declared.Entry.{Entry}
 use Rattle.distributor_channels.specs.declared.Channel.{Channel}
 use Rattle.distributor_channels.specs.declared.Channels.{Channels}
-use Rattle.distributor_channels.specs.declared.SendPoll.{SendPoll}
 use Rattle.distributor_channels.specs.declared.SendPoll.TheVariants.{Sent, Wait, Closed}
-use Rattle.distributor_channels.specs.Meaning.{Chan, Meaning, Facts, Out, bit, entry, wakers, onto, none, is_open, open_count, chan, with_queue, with_receiving}
-use Rattle.distributor_channels.specs.Steps.{SendAnswer, find, back, send_by, send_step}
+use Rattle.distributor_channels.specs.Meaning.{Meaning, bit, entry, none, is_open, open_count, chan, with_queue, with_receiving}
+use Rattle.distributor_channels.specs.Steps.{SendAnswer, find, back, send_step}
 use Rattle.distributor_channels.specs.Naming.{Names}
-use Rattle.distributor_channels.specs.Calls.{records, shut_record, line_of, Mems, Others, mark_of, mark, fits, found, Stands, Represents, facts, Does, Unfit}
+use Rattle.distributor_channels.specs.Calls.{records, shut_record, line_of, Mems, Others, mark_of, mark, found, Stands, Represents, facts, Does}
 use Rattle.distributor_channels.proofs.Ways as way
-use Rattle.distributor_channels.proofs.Standing.{take-set, no_queue, none_is, none-push, same_length, within, same_mark, same_senders, same_receiver, is_line, is_wait, line_is, wait_is, line_len, same_open, stands_set, waits_kept, lines_kept, count_at, Found, found_err}
+use Rattle.distributor_channels.proofs.Standing.{take-set, no_queue, none_is, none-push, same_length, same_senders, same_receiver, is_line, is_wait, line_is, wait_is, line_len, stands_set, waits_kept, Found, found_err}
 
 -- channels and memories with other parts
 abbrev pub remade : Channels → List Channel → Queue → ℕ → Channels

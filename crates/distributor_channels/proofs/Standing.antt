@@ -1,21 +1,20 @@
 -- What one changed record does to what is represented. Assumes nothing.
-use Rattle.std.proofs.Common.{◌≡◌, ℕ, zero, suc, ◌+◌, ◌-◌, ◌<◌, ◌≤◌, Bool, true, false, cond, ◌&&◌, eqb, ltb, leb, ◌⊎◌, List, [], ◌∷◌, ◌++◌, map, length, get_or, take, drop, set, is_some, Some, None, Ok, Err, Option, Result, sym, refl, ap, ◌∙◌, subst, inl, inr, ⊎_elim, arith, length-append, length-set}
+use Rattle.std.proofs.Common.{◌≡◌, ℕ, zero, suc, ◌+◌, ◌<◌, ◌≤◌, Bool, true, false, cond, ◌&&◌, eqb, ltb, List, [], ◌∷◌, ◌++◌, map, length, get_or, take, set, is_some, Ok, Err, Result, sym, refl, ap, ◌∙◌, arith, length-append, length-set}
 use lib.ListN.{length-map}
-use Rattle.std.proofs.lemmas.List.{get_or-set_same, set-get_or, map-set, get_or-map, get_or_append_left, set-append_left}
-use Rattle.std.proofs.lemmas.Bool.{cases_lt, le-ltb, lt-ltb, ltb-true, leb-true, eq-eqb, ne_eqb, eqb-true, eqb-false, and_parts, cases_Bool}
+use Rattle.std.proofs.lemmas.List.{set-get_or, map-set, get_or-map, get_or_append_left, set-append_left}
+use Rattle.std.proofs.lemmas.Bool.{ltb-true, ne_eqb}
 use Rattle.refusal.specs.declared.Refusal.{Refusal}
 use Rattle.refusal.specs.declared.Refusal.TheVariants.{Lengths, Range}
 use Rattle.bank.specs.declared.Queue.{Queue}
 use Rattle.bank.specs.Cells.{empty}
-use Rattle.bank.specs.Lists.{list, put}
-use Rattle.bank.specs.Banks.{Mem, Is, size, Keeps}
-use Rattle.bank.proofs.Laws.{keeps_len, keeps-fits}
+use Rattle.bank.specs.Lists.{list}
+use Rattle.bank.specs.Banks.{Mem, Is, Keeps}
+use Rattle.bank.proofs.Laws.{keeps_len}
 use Rattle.distributor_channels.specs.declared.Entry.{Entry}
 use Rattle.distributor_channels.specs.declared.Channel.{Channel}
 use Rattle.distributor_channels.specs.declared.Channels.{Channels}
-use Rattle.distributor_channels.specs.Meaning.{Chan, Meaning, Facts, bit, none, is_open, open_count, shut, chan}
-use Rattle.distributor_channels.specs.Steps.{find}
-use Rattle.distributor_channels.specs.Calls.{records, shut_record, line_of, record_open, Mems, Others, Mark, mark_of, mark, fits, found, Stands, facts}
+use Rattle.distributor_channels.specs.Meaning.{Chan, Meaning, bit, none, is_open, open_count, shut, chan}
+use Rattle.distributor_channels.specs.Calls.{records, shut_record, line_of, record_open, Others, Mark, mark_of, mark, found, Stands}
 
 -- a changed record among those in use
 pub take-set : {A : Type 0} (n : ℕ) (l : List A) (k : ℕ) (a : A) → take n (set l k a) ≡ set (take n l) k a

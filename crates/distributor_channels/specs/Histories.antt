@@ -2,12 +2,10 @@
 --
 -- A history is the list of the calls so far, the newest first, each with its answer and the wakers that it named. The words below
 -- speak of the history alone; the laws tie them to what a call would answer now.
-use Rattle.std.specs.Prelude.{◌≡◌, ℕ, zero, suc, ◌+◌, ◌<◌, Bool, true, false, cond, not, ◌&&◌, ◌||◌, List, [], ◌∷◌, ◌++◌, length, Ok, Err, Result, ◌==◌, nat_lt}
+use Rattle.std.specs.Prelude.{◌≡◌, ℕ, zero, suc, ◌+◌, ◌<◌, Bool, true, false, cond, not, ◌&&◌, ◌||◌, List, [], ◌∷◌, ◌++◌, length, Ok, Err, ◌==◌, nat_lt}
 use Rattle.refusal.specs.declared.Refusal.{Refusal}
 use Rattle.refusal.specs.declared.Refusal.TheVariants.{Lengths, Range, Sending, Idle, Ending, Cells, Files, Places, Closed as Shut}
-use Rattle.distributor_channels.specs.declared.SendPoll.{SendPoll}
 use Rattle.distributor_channels.specs.declared.SendPoll.TheVariants.{Sent, Wait, Closed}
-use Rattle.distributor_channels.specs.declared.ReceivePoll.{ReceivePoll}
 use Rattle.distributor_channels.specs.declared.ReceivePoll.TheVariants.{Element, End, Wait as Await}
 use Rattle.distributor_channels.specs.Meaning.{Meaning, Facts, bit, chan, opened}
 use Rattle.distributor_channels.specs.Steps.{SendAnswer, ReceiveAnswer, CloseAnswer, send_step, receive_step, close_sender_step, close_receiver_step}

@@ -1,5 +1,5 @@
 -- Worked runs over the steps, each channel with one sender. Assumes nothing.
-use Rattle.std.specs.Prelude.{◌≡◌, ℕ, ◌+◌, ◌-◌, true, List, [], ◌∷◌, map, length, Ok, Err, Result}
+use Rattle.std.specs.Prelude.{◌≡◌, ℕ, ◌+◌, ◌-◌, true, [], ◌∷◌, map, length, Ok}
 use Rattle.refusal.specs.declared.Refusal.TheVariants.{Range}
 use Rattle.bank.specs.Lists.{total}
 use Rattle.distributor_channels.specs.declared.SendPoll.TheVariants.{Wait}

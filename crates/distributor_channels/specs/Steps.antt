@@ -1,11 +1,10 @@
 -- The four calls, each as a step on the meaning. Assumes nothing.
 --
 -- A step reads as the table of refusals does, the smallest number first, and then what the call does.
-use Rattle.std.specs.Prelude.{ℕ, ◌+◌, ◌-◌, Bool, true, false, cond, not, List, [], ◌∷◌, ◌++◌, length, Some, None, Ok, Err, filter, Option, Result, ◌==◌, nat_lt}
+use Rattle.std.specs.Prelude.{ℕ, ◌-◌, cond, not, List, [], ◌∷◌, length, Ok, Err, filter, Result, ◌==◌, nat_lt}
 use Rattle.refusal.specs.declared.Refusal.{Refusal}
 use Rattle.refusal.specs.declared.Refusal.TheVariants.{Lengths, Range, Cells, Places, Closed as Shut}
-use Rattle.bank.specs.Lists.{rest, push, without}
-use Rattle.distributor_channels.specs.declared.Entry.{Entry}
+use Rattle.bank.specs.Lists.{push, without}
 use Rattle.distributor_channels.specs.declared.SendPoll.{SendPoll}
 use Rattle.distributor_channels.specs.declared.SendPoll.TheVariants.{Sent, Wait, Closed}
 use Rattle.distributor_channels.specs.declared.Refused.{Refused}

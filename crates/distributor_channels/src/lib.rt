@@ -16,6 +16,7 @@
 // Derived from repartition/distributor_channels.rs of datafusion-physical-plan 55.0.0 (Apache-2.0; see NOTICE). Changed:
 // carried over to Rattle; wakers are numbers, futures are polls, drops are closes, and memory is handed in.
 #![tactic(auto)]
+
 ghost use Rattle.std.specs.Prelude.{◌≡◌, ◌+◌, ◌-◌, ◌<◌, cond, length, take, Err as Bad, slice_index_or, slice_set};
 ghost use Rattle.bank.specs.Banks.{view, size};
 ghost use Rattle.distributor_channels.specs.Calls.{records, shut_record, record_open, tallied, fits, found, seen, facts, Does, Chronicles, Kept, Unfit, Same, Steady, Opens, Recounts, within};

@@ -8,6 +8,7 @@
 // not polled again until a call names it. The task with the lowest number goes first, so feeds run ahead of rooms until
 // the gate or the memory stops them.
 #![tactic(auto)]
+
 ghost use Rattle.std.specs.Prelude.{◌≡◌, ℕ, true, List, [], length, IfOk, OnOk, slice_index, slice_set};
 ghost use Rattle.distributor_channels.specs.Histories.{ends};
 ghost use Rattle.executor.specs.Books.{Stands, sent_by, refused_as, outcome_of, advance, given_of, Next, AtEnd, Drained, Delivered};

@@ -1,11 +1,11 @@
 -- Lists of reservation calls, one call on. Assumes nothing.
-use Rattle.std.proofs.Common.{◌≡◌, ℕ, ◌+◌, ◌-◌, ◌<◌, ◌≤◌, Bool, true, false, cond, leb, List, [], ◌∷◌, length, get_or, drop, sym, refl, ap, ◌∙◌, arith}
+use Rattle.std.proofs.Common.{◌≡◌, ℕ, ◌+◌, ◌<◌, ◌≤◌, leb, List, length, get_or, drop, sym, refl, ap, ◌∙◌, arith}
 use Rattle.std.proofs.lemmas.List.{at_drop_more, at_drop_all}
 use Rattle.std.proofs.lemmas.Bool.{cond_both, leb-true}
 use Rattle.resources.specs.declared.reservation.Change.{Change}
 use Rattle.resources.specs.declared.reservation.Change.TheVariants.{Grow, Shrink}
 use Rattle.resources.specs.declared.reservation.TenantChange.{TenantChange}
-use Rattle.resources.specs.Reservations.{Standing, grown, shrunk, change, changes, whole, tenant_change, tenant_changes}
+use Rattle.resources.specs.Reservations.{Standing, change, changes, whole, tenant_change, tenant_changes}
 
 -- one call keeps held and headroom together
 pub whole-change : (m : Standing) (c : Change) → whole (change m c) ≡ whole m

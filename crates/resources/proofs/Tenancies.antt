@@ -1,10 +1,10 @@
 -- One tenant's number and the common sum. Assumes nothing.
-use Rattle.std.proofs.Common.{◌≡◌, ℕ, ◌+◌, ◌-◌, ◌^◌, ◌<◌, ◌≤◌, Bool, true, false, cond, leb, List, length, get_or, set, sum, sym, refl, ap, ◌∙◌, arith, length-set}
+use Rattle.std.proofs.Common.{◌≡◌, ℕ, ◌+◌, ◌-◌, ◌^◌, ◌<◌, ◌≤◌, Bool, true, false, leb, length, get_or, set, sum, sym, refl, ◌∙◌, arith, length-set}
 use Rattle.std.proofs.lemmas.List.{set-get_or}
 use Rattle.std.proofs.lemmas.List.Sums.{sum_by-set, get_or-le-sum_by}
 use Rattle.std.proofs.lemmas.Bool.{cond-true, cond-false, le-leb, lt-leb}
 use Rattle.resources.specs.declared.tenants.Tenants.{Tenants}
-use Rattle.resources.specs.Reservations.{Standing, grown, shrunk, tenant_standing, TenantMoved}
+use Rattle.resources.specs.Reservations.{grown, shrunk, tenant_standing, TenantMoved}
 
 module _ (t : Tenants) (i : ℕ) (s : ℕ) (l : i < 16) where
   own : ℕ

@@ -1,5 +1,5 @@
 -- The words of the delivered payloads, and what words read back as. Assumes nothing.
-use Rattle.std.specs.Prelude.{◌≡◌, ℕ, ◌%◌, ◌^◌, ◌<◌, Bool, true, false, cond, List, [], ◌∷◌, ◌==◌, slice_index}
+use Rattle.std.specs.Prelude.{ℕ, ◌%◌, ◌^◌, cond, List, [], ◌∷◌, ◌==◌, slice_index}
 use Rattle.std.proofs.Common.{mod-lt, lit<}
 use Rattle.resources.specs.declared.notice.Notice.{Notice}
 use Rattle.resources.specs.declared.receipt.Seen.{Seen}

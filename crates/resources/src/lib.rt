@@ -6,6 +6,7 @@
 //
 // Each is a trait whose ghost members say what a value means; a layer above is proved once, against the trait alone.
 #![tactic(auto)]
+
 pub mod cause;
 pub mod ceiling;
 pub mod notice;

@@ -6,6 +6,7 @@
 // The same calls are made over a block store and over a log store, each just too small for four notices. Each call is a line with
 // its answer; below it stands what became of the pool's files: which one opened, was finished, or went.
 #![tactic(auto)]
+
 use anyhow::anyhow;
 use bank::{Bank, Cell};
 use refusal::Refusal;

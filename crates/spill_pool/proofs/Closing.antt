@@ -1,22 +1,19 @@
 -- The last close, and removing all: the pool stays sound, and nothing else in the store changes. Assumes nothing.
-use Rattle.std.proofs.Common.{◌≡◌, ℕ, ◌+◌, ◌-◌, ◌<◌, ◌≤◌, Bool, true, false, cond, not, ◌||◌, eqb, List, [], ◌∷◌, ◌++◌, map, drop, is_some, Some, None, Ok, Err, Option, Result, sym, refl, ap, ◌∙◌, subst, ⊎_elim, arith}
-use Rattle.std.specs.List.{AllByRecursion as All}
+use Rattle.std.proofs.Common.{◌≡◌, ℕ, ◌-◌, ◌<◌, ◌≤◌, true, false, not, eqb, List, [], ◌∷◌, map, drop, is_some, Some, None, Ok, Err, Option, Result, sym, refl, ap, ◌∙◌, subst, ⊎_elim, arith}
 use Rattle.std.proofs.lemmas.List.{append-nil}
-use Rattle.std.proofs.lemmas.Bool.{cases_Bool, cond_both, cond-true, cond-false, eqb-true, eqb-false, or_cases, or_parts, or_from, and_cases, both_ways}
-use Rattle.refusal.specs.declared.Refusal.{Refusal}
-use Rattle.bank.specs.Lists.{older, rest, push}
+use Rattle.std.proofs.lemmas.Bool.{cond_both, eqb-true, eqb-false, or_cases, or_parts, and_cases, both_ways}
+use Rattle.bank.specs.Lists.{older}
 use Rattle.resources.specs.declared.cause.Cause.{Cause}
 use Rattle.resources.specs.Files.{File, Files, put, shut, finish_after, remove_after}
 use Rattle.resources.specs.History.{batches_of}
-use Rattle.spill_pool.specs.declared.fault.Fault.{Fault}
 use Rattle.spill_pool.specs.declared.FileRecord.{FileRecord}
 use Rattle.spill_pool.specs.declared.Push.TheVariants.{Skipped}
-use Rattle.spill_pool.specs.Meaning.{Setup, Pool, Facts, Replies, Kind, Stored, Sound, Frame, is_spent, ended, open_file, among, left, unread}
-use Rattle.spill_pool.specs.Steps.{Out, out, pool, listed, swept, told, Written, close_last, close_step, removed, remove_step}
-use Rattle.spill_pool.proofs.Listing.{put_here, put_there, open_none, open_finished}
+use Rattle.spill_pool.specs.Meaning.{Setup, Pool, Facts, Replies, Kind, Stored, Sound, Frame, is_spent, ended, open_file, among, unread}
+use Rattle.spill_pool.specs.Steps.{Out, out, pool, listed, swept, Written, close_last, close_step, removed, remove_step}
+use Rattle.spill_pool.proofs.Listing.{put_here, put_there}
 use Rattle.spill_pool.proofs.Settling.{unread-push}
 use Rattle.spill_pool.proofs.Writing.{Wrote, stored_ended, batches_shut, some_shut}
-use Rattle.spill_pool.proofs.Pushing.{frame_same, settle_sound, settle-unread, frame_old, Last, last_parts}
+use Rattle.spill_pool.proofs.Pushing.{frame_same, settle_sound, settle-unread, frame_old, last_parts}
 
 -- what is known after a call that adds nothing and gives nothing
 pub record Held {P A : Type 0} (k : Kind P) (s : Setup) (m : Pool) (fs : Files) (o : Out A) : Type 0 where

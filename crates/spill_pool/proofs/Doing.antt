@@ -1,5 +1,5 @@
 -- From a call's ways out to what it promises: the step, and the history that it makes longer. Assumes nothing.
-use Rattle.std.proofs.Common.{◌≡◌, ℕ, ◌+◌, ◌-◌, ◌^◌, ◌<◌, ◌≤◌, Bool, true, false, cond, not, eqb, List, [], ◌∷◌, ◌++◌, length, take, drop, Some, None, Ok, Err, Option, Result, sym, refl, ap, ◌∙◌, subst, arith}
+use Rattle.std.proofs.Common.{◌≡◌, ℕ, ◌-◌, ◌^◌, ◌≤◌, true, false, cond, not, eqb, List, [], ◌∷◌, ◌++◌, length, take, drop, Some, None, Ok, Err, Option, Result, sym, refl, ap, ◌∙◌, subst, arith}
 use Rattle.std.proofs.lemmas.List.{take_at}
 use Rattle.std.proofs.lemmas.Bool.{cond-true, cond-false, eq-eqb, ne_eqb, both_ways}
 use Rattle.refusal.specs.declared.Refusal.{Refusal}
@@ -17,10 +17,10 @@ use Rattle.spill_pool.specs.declared.OpenFile.{OpenFile}
 use Rattle.spill_pool.specs.declared.Push.{Push}
 use Rattle.spill_pool.specs.declared.Push.TheVariants.{Skipped}
 use Rattle.spill_pool.specs.declared.SpillPool.{SpillPool}
-use Rattle.spill_pool.specs.Meaning.{Setup, Pool, Batch, Kind, Lawful, Replies, Facts, Frame, Sound, PushLawful, PushLawfulAt, PollLawful, PollLawfulAt, CloseLawful, CloseLawfulAt, batch_of, open_file, unfinished, opened}
-use Rattle.spill_pool.specs.Steps.{Out, out, pool, write, settle, push_new, push_to, push_step}
-use Rattle.spill_pool.specs.Histories.{Event, Run, Laws, pushing, pushes}
-use Rattle.spill_pool.specs.Calls.{Others, Shows, PushesBy, PushesOpen, PushesNew, setup_of, facts_of, Represents, DoesBy, Does, Longer, Chronicles, Pushes}
+use Rattle.spill_pool.specs.Meaning.{Setup, Pool, Batch, Kind, Lawful, Replies, Facts, Frame, Sound, PushLawful, PushLawfulAt, PollLawfulAt, CloseLawfulAt, batch_of, open_file, opened}
+use Rattle.spill_pool.specs.Steps.{Out, out, write, settle, push_new, push_to, push_step}
+use Rattle.spill_pool.specs.Histories.{Event, Run, pushing, pushes}
+use Rattle.spill_pool.specs.Calls.{Others, Shows, PushesBy, PushesOpen, PushesNew, setup_of, facts_of, Represents, DoesBy, Does, Chronicles, Pushes}
 use Rattle.spill_pool.proofs.Listing.{open_some}
 use Rattle.spill_pool.proofs.Pushing.{pushed, frame_same}
 use Rattle.spill_pool.proofs.LawsHold.{laws}

@@ -1,13 +1,12 @@
 -- The ways out of a poll. Assumes nothing.
-use Rattle.std.proofs.Common.{◌≡◌, ℕ, ◌+◌, ◌^◌, ◌<◌, ◌≤◌, Bool, true, false, cond, not, eqb, ltb, List, [], ◌∷◌, ◌++◌, length, get_or, take, drop, Some, None, Ok, Err, Option, Result, sym, refl, ap, ◌∙◌, subst, ⊎_elim, arith}
+use Rattle.std.proofs.Common.{◌≡◌, ℕ, ◌^◌, ◌<◌, ◌≤◌, true, cond, not, eqb, ltb, List, [], ◌∷◌, length, get_or, take, drop, Some, None, Ok, Err, Option, Result, sym, refl, ap, ◌∙◌, subst, arith}
 use Rattle.std.specs.List.{AllByRecursion as All}
 use Rattle.std.proofs.ByRecursion.{All-get_or}
 use Rattle.std.proofs.lemmas.List.{take_at}
 use Rattle.std.proofs.lemmas.Option.{slice_get-get_or}
-use Rattle.std.proofs.lemmas.Bool.{cases_Bool, cond-true, cond-false, cond_both, eq-eqb, ne_eqb, lt-ltb, le-ltb, both_ways}
+use Rattle.std.proofs.lemmas.Bool.{cond-true, cond-false, cond_both, eq-eqb, ne_eqb, lt-ltb, le-ltb, both_ways}
 use Rattle.refusal.specs.declared.Refusal.{Refusal}
 use Rattle.refusal.specs.declared.Refusal.TheVariants.{Lengths}
-use Rattle.bank.specs.declared.Queue.{Queue}
 use Rattle.bank.specs.Lists.{oldest}
 use Rattle.bank.specs.Banks.{Mem, Keeps, size, ReadsOldest}
 use Rattle.resources.specs.declared.cause.Cause.{Cause}
@@ -22,12 +21,12 @@ use Rattle.spill_pool.specs.declared.PoolPoll.{PoolPoll}
 use Rattle.spill_pool.specs.declared.PoolPoll.TheVariants.{Batch as Given, Faulty, Wait, End}
 use Rattle.spill_pool.specs.declared.SpillPool.{SpillPool}
 use Rattle.spill_pool.specs.Faults.{store_fault}
-use Rattle.spill_pool.specs.Meaning.{Setup, Pool, Kind, Lawful, Replies, Facts, Frame, Sound, Stored, PollLawful, PollLawfulAt, advanced, is_spent, unfinished, open_file}
-use Rattle.spill_pool.specs.Steps.{Out, out, pool, ahead, swept, words_or, rest as resting, read_by, poll_of, poll_step}
+use Rattle.spill_pool.specs.Meaning.{Setup, Pool, Kind, Lawful, Replies, Facts, Frame, Sound, Stored, PollLawful, PollLawfulAt, advanced, is_spent, open_file}
+use Rattle.spill_pool.specs.Steps.{Out, out, ahead, swept, words_or, rest as resting, read_by, poll_of, poll_step}
 use Rattle.spill_pool.specs.Histories.{polling, polls}
-use Rattle.spill_pool.specs.Calls.{Others, Shows, Advances, setup_of, facts_of, Represents, DoesBy, Chronicles, Polls}
+use Rattle.spill_pool.specs.Calls.{Others, Shows, Advances, setup_of, facts_of, Represents, Chronicles, Polls}
 use Rattle.spill_pool.proofs.Settling.{spent_parts}
-use Rattle.spill_pool.proofs.Reading.{polled, words_at}
+use Rattle.spill_pool.proofs.Reading.{polled}
 use Rattle.spill_pool.proofs.Placing.{first}
 use Rattle.spill_pool.proofs.Doing.{unasked, poll_unasked, does_by, stays_by, chronicled}
 

@@ -1,17 +1,16 @@
 -- The ways out of a write, each with what the guard leaves. Assumes nothing.
-use Rattle.std.proofs.Common.{◌≡◌, ℕ, ◌+◌, ◌-◌, ◌^◌, ◌<◌, min, Bool, true, false, cond, not, ◌||◌, ltb, leb, List, Some, None, Ok, Err, Option, Result, sym, refl, ap, ◌∙◌, subst, arith}
+use Rattle.std.proofs.Common.{◌≡◌, ℕ, ◌+◌, ◌-◌, ◌^◌, ◌<◌, min, Bool, true, false, not, ◌||◌, ltb, leb, List, None, Ok, Err, Option, Result, sym, refl, ap, ◌∙◌, subst, arith}
 use Rattle.std.proofs.lemmas.Bool.{cond-true, cond-false}
 use Rattle.resources.specs.declared.cause.Cause.{Cause}
 use Rattle.resources.specs.declared.cause.Cause.TheVariants.{Device}
 use Rattle.resources.specs.Files.{Files, AppendLawful, append_after, FinishLawful, finish_after}
 use Rattle.spill_pool.specs.declared.fault.Fault.{Fault}
 use Rattle.spill_pool.specs.declared.fault.StoreCall.TheVariants.{Append}
-use Rattle.spill_pool.specs.declared.FileRecord.{FileRecord}
 use Rattle.spill_pool.specs.declared.OpenFile.{OpenFile}
 use Rattle.spill_pool.specs.declared.Push.TheVariants.{Kept, Failed}
 use Rattle.spill_pool.specs.Faults.{store_fault}
 use Rattle.spill_pool.specs.Meaning.{Setup, Replies, is_full, grown, ended}
-use Rattle.spill_pool.specs.Steps.{Written, told, rotate, write_by, write}
+use Rattle.spill_pool.specs.Steps.{Written, told, write}
 use Rattle.spill_pool.specs.Calls.{Appends, Finishes, WritesBy, Writes, append_or, current_of, record_of, parcel}
 
 -- what the store answered: a call that was not made counts as a failure of the device

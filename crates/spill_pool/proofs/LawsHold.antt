@@ -1,17 +1,13 @@
 -- The laws of histories hold. Assumes nothing.
-use Rattle.std.proofs.Common.{◌≡◌, ℕ, ◌+◌, ◌^◌, ◌<◌, ◌≤◌, Bool, true, false, not, eqb, List, [], ◌∷◌, ◌++◌, length, Some, None, Ok, Err, Option, Result, sym, refl, ap, ◌∙◌, subst, ⊎_elim, arith, length-append}
-use Rattle.std.specs.List.{AllByRecursion as All}
+use Rattle.std.proofs.Common.{◌≡◌, ℕ, ◌+◌, ◌^◌, ◌<◌, ◌≤◌, true, false, not, eqb, List, ◌++◌, length, None, Result, sym, refl, ap, ◌∙◌, ⊎_elim, arith, length-append}
 use Rattle.std.proofs.ByRecursion.{All-weaker}
 use Rattle.std.proofs.lemmas.List.{append-nil, append_assoc}
 use Rattle.std.proofs.lemmas.Bool.{cases_Bool, cases_eq, cond_both, eq-eqb, ne_eqb, both_ways}
 use Rattle.refusal.specs.declared.Refusal.{Refusal}
 use Rattle.resources.specs.Files.{Files}
-use Rattle.spill_pool.specs.declared.FileRecord.{FileRecord}
-use Rattle.spill_pool.specs.declared.Push.{Push}
-use Rattle.spill_pool.specs.declared.PoolPoll.{PoolPoll}
-use Rattle.spill_pool.specs.Meaning.{Setup, Pool, Facts, Replies, Kind, Lawful, batch_of, Used, Sound, Frame, among, unread, opened}
-use Rattle.spill_pool.specs.Steps.{Out, pool, removed, push_step, poll_step, close_step, remove_step}
-use Rattle.spill_pool.specs.Histories.{Event, Run, opening, pushing, polling, closing, removing, meanwhile, Elsewhere, keeps, gives, rests, given, kept, kept_unless, Laws}
+use Rattle.spill_pool.specs.Meaning.{Setup, Pool, Facts, Kind, Lawful, batch_of, Used, Sound, Frame, among, unread}
+use Rattle.spill_pool.specs.Steps.{Out, push_step, poll_step, close_step, remove_step}
+use Rattle.spill_pool.specs.Histories.{Event, Run, opening, pushing, polling, closing, removing, meanwhile, keeps, gives, given, kept, kept_unless, Laws}
 use Rattle.spill_pool.proofs.Settling.{stored_agree, unread_agree}
 use Rattle.spill_pool.proofs.Pushing.{pushed}
 use Rattle.spill_pool.proofs.Reading.{polled, rests_when}

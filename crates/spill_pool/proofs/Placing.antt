@@ -1,11 +1,10 @@
 -- Records in their places, by the bank's laws alone. Assumes nothing.
-use Rattle.std.proofs.Common.{◌≡◌, ℕ, ◌+◌, ◌<◌, ◌≤◌, Bool, true, false, cond, List, [], ◌∷◌, ◌++◌, length, get_or, take, drop, Some, None, Ok, Err, Option, Result, sym, refl, ap, ◌∙◌, subst, arith}
+use Rattle.std.proofs.Common.{◌≡◌, ℕ, ◌+◌, ◌<◌, ◌≤◌, true, false, List, [], ◌∷◌, ◌++◌, length, get_or, take, drop, Some, None, Option, Result, sym, refl, ap, ◌∙◌, subst, arith}
 use Rattle.std.proofs.lemmas.List.{drop_more, take_more, drop_all, take_all}
 use Rattle.std.proofs.lemmas.Bool.{cond-true, cond-false}
 use Rattle.bank.specs.declared.Queue.{Queue}
-use Rattle.bank.specs.Cells.{empty}
-use Rattle.bank.specs.Lists.{oldest, newest, older, rest, push, list}
-use Rattle.bank.specs.Banks.{Mem, Is, Keeps, freed, Adds, Takes, ReadsNewest, ReadsOldest, Rewrites}
+use Rattle.bank.specs.Lists.{oldest, newest, older, rest, push}
+use Rattle.bank.specs.Banks.{Mem, Is, Keeps, Adds, Takes, ReadsNewest, Rewrites}
 use Rattle.bank.proofs.Laws.{keeps_len}
 use Rattle.resources.specs.Files.{Files, remove_after}
 use Rattle.spill_pool.specs.declared.FileRecord.{FileRecord}

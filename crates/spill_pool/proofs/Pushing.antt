@@ -1,18 +1,18 @@
 -- A push: the pool stays sound, what is unread gains the batch if it was kept, and nothing else in the store changes. Assumes nothing.
-use Rattle.std.proofs.Common.{◌≡◌, ℕ, ◌+◌, ◌^◌, ◌<◌, ◌≤◌, Bool, true, false, cond, not, ◌&&◌, ◌||◌, eqb, ltb, leb, ◌⊎◌, List, [], ◌∷◌, ◌++◌, map, length, is_some, Some, None, Ok, Err, Option, Result, sym, refl, ap, ◌∙◌, subst, inl, inr, ⊎_elim, arith}
+use Rattle.std.proofs.Common.{◌≡◌, ℕ, ◌^◌, ◌≤◌, Bool, true, false, not, ◌||◌, eqb, ◌⊎◌, List, [], ◌∷◌, ◌++◌, map, is_some, Some, None, Ok, Err, Option, Result, sym, refl, ap, ◌∙◌, subst, inl, inr, ⊎_elim, arith}
 use Rattle.std.specs.List.{AllByRecursion as All}
 use Rattle.std.proofs.lemmas.List.{append-nil, append_assoc}
-use Rattle.std.proofs.lemmas.Bool.{cases_Bool, cond-true, cond-false, cond_both, eq-eqb, eqb-true, eqb-false, or_cases, or_parts, or_left, or_right, both_ways, not-false}
+use Rattle.std.proofs.lemmas.Bool.{cases_Bool, cond-true, cond_both, eqb-true, eqb-false, or_cases, or_left, or_right, both_ways}
 use Rattle.refusal.specs.declared.Refusal.{Refusal}
-use Rattle.bank.specs.Lists.{newest, older, rest, push}
+use Rattle.bank.specs.Lists.{older, rest, push}
 use Rattle.resources.specs.declared.cause.Cause.{Cause}
-use Rattle.resources.specs.Files.{File, Files, put, fresh, remove_after, CreateLawful, create_after}
+use Rattle.resources.specs.Files.{File, Files, put, fresh, remove_after, CreateLawful}
 use Rattle.spill_pool.specs.declared.FileRecord.{FileRecord}
 use Rattle.spill_pool.specs.declared.Push.{Push}
 use Rattle.spill_pool.specs.Meaning.{Setup, Pool, Facts, Replies, Kind, Lawful, batch_of, Stored, Used, Sound, Frame, Apart, is_spent, new_file, open_file, among, left, unread, PushLawful, PushLawfulAt}
-use Rattle.spill_pool.specs.Steps.{Out, pool, listed, swept, Written, write, settle, push_new, push_to, push_step}
+use Rattle.spill_pool.specs.Steps.{Out, listed, swept, Written, write, settle, push_new, push_to, push_step}
 use Rattle.spill_pool.specs.Histories.{keeps}
-use Rattle.spill_pool.proofs.Listing.{put_here, put_there, agree_put, newest_split, open_some, open_none, all_push_parts, rest-push_parts, rest-push_last, among-push, among-push_parts, among_here, among-push_true, apart_push_parts, differ}
+use Rattle.spill_pool.proofs.Listing.{put_here, put_there, agree_put, newest_split, open_some, open_none, all_push_parts, rest-push_parts, rest-push_last, among-push_parts, apart_push_parts, differ}
 use Rattle.spill_pool.proofs.Settling.{AllStored, stored_agree, unread_agree, unread-push, listed_sound, listed-unread}
 use Rattle.spill_pool.proofs.Writing.{Wrote, wrote}
 

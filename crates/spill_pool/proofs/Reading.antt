@@ -1,18 +1,18 @@
 -- A poll: what it gives was the oldest of what is unread, the pool stays sound, and nothing else in the store changes. Assumes nothing.
-use Rattle.std.proofs.Common.{◌≡◌, ℕ, suc, ◌+◌, ◌^◌, ◌<◌, ◌≤◌, Bool, true, false, cond, not, ◌&&◌, ◌||◌, eqb, ltb, List, [], ◌∷◌, ◌++◌, map, length, get_or, drop, Some, None, Ok, Err, Option, Result, sym, refl, ap, ◌∙◌, subst, ⊎_elim, add-one, arith, length-append, length-drop, drop-cons}
+use Rattle.std.proofs.Common.{◌≡◌, ℕ, suc, ◌<◌, ◌≤◌, true, false, not, eqb, ltb, List, [], ◌∷◌, ◌++◌, map, length, get_or, drop, Some, None, Ok, Err, Option, Result, sym, refl, ap, ◌∙◌, subst, ⊎_elim, add-one, arith, length-append, length-drop, drop-cons}
 use lib.ListN.{length-map}
-use Rattle.std.specs.List.{AllByRecursion as All, slice_get}
+use Rattle.std.specs.List.{AllByRecursion as All}
 use Rattle.std.proofs.lemmas.Option.{slice_get-get_or}
-use Rattle.std.proofs.lemmas.Bool.{cases_Bool, cases_eq, cond-true, cond-false, cond_both, eq-eqb, ne_eqb, ltb-true, ltb-false, or_left, or_right, or_from, or_parts, both_ways, not-true, not-false}
+use Rattle.std.proofs.lemmas.Bool.{cases_Bool, cases_eq, cond-true, cond-false, cond_both, eq-eqb, ne_eqb, ltb-true, ltb-false, or_from, or_parts, both_ways}
 use Rattle.refusal.specs.declared.Refusal.{Refusal}
-use Rattle.bank.specs.Lists.{older, rest}
+use Rattle.bank.specs.Lists.{older}
 use Rattle.resources.specs.declared.cause.Cause.{Cause}
 use Rattle.resources.specs.Files.{File, Files, batch_at, remove_after}
 use Rattle.resources.specs.History.{batches_of}
 use Rattle.spill_pool.specs.declared.FileRecord.{FileRecord}
 use Rattle.spill_pool.specs.declared.PoolPoll.{PoolPoll}
-use Rattle.spill_pool.specs.declared.PoolPoll.TheVariants.{Batch as Given, Faulty, Wait, End}
-use Rattle.spill_pool.specs.Meaning.{Setup, Pool, Facts, Replies, Kind, Stored, Used, Sound, Frame, Apart, advanced, is_spent, open_file, among, left, unread, PollLawful}
+use Rattle.spill_pool.specs.declared.PoolPoll.TheVariants.{Wait, End}
+use Rattle.spill_pool.specs.Meaning.{Setup, Pool, Facts, Replies, Kind, Stored, Used, Sound, Frame, advanced, is_spent, among, left, unread}
 use Rattle.spill_pool.specs.Steps.{Out, pool, ahead, swept, words_or, rest as resting, read_by, poll_of, poll_step}
 use Rattle.spill_pool.specs.Histories.{gives, rests}
 use Rattle.spill_pool.proofs.Listing.{agree_put, open_none, open_finished, all_rest}

@@ -1,17 +1,17 @@
 -- A file goes behind or before the others, or is spent and removed: the pool stays sound, and nothing unread is lost. Assumes nothing.
-use Rattle.std.proofs.Common.{◌≡◌, ℕ, ◌+◌, ◌^◌, ◌<◌, ◌≤◌, Bool, true, false, cond, ◌&&◌, ◌||◌, eqb, ltb, leb, List, [], ◌∷◌, ◌++◌, map, length, drop, Some, None, Option, sym, refl, ap, ◌∙◌, subst, ⊎_elim, arith, length-append}
-use lib.Seq.{drop-append-le, drop-append_seam}
+use Rattle.std.proofs.Common.{◌≡◌, ℕ, ◌<◌, true, false, eqb, List, [], ◌∷◌, ◌++◌, map, length, drop, Some, None, Option, sym, refl, ap, ◌∙◌, subst, ⊎_elim, arith}
+use lib.Seq.{drop-append_seam}
 use Rattle.std.specs.List.{AllByRecursion as All}
 use Rattle.std.proofs.ByRecursion.{All-push}
-use Rattle.std.proofs.lemmas.List.{append-nil, append_assoc, map-append}
-use Rattle.std.proofs.lemmas.Bool.{cases_Bool, cond-true, cond-false, cond_both, eq-eqb, ne_eqb, eqb-true, eqb-false, and_parts, and_cases, or_parts, or_from, or_left, or_right, both_ways}
-use Rattle.bank.specs.Lists.{newest, older, rest, push}
+use Rattle.std.proofs.lemmas.List.{append-nil, append_assoc}
+use Rattle.std.proofs.lemmas.Bool.{cases_Bool, cond-true, cond-false, eq-eqb, eqb-true, eqb-false, and_parts, and_cases, or_left, or_right, both_ways}
+use Rattle.bank.specs.Lists.{older, rest, push}
 use Rattle.resources.specs.Files.{File, Files, put, remove_after}
 use Rattle.resources.specs.History.{batches_of}
 use Rattle.spill_pool.specs.declared.FileRecord.{FileRecord}
-use Rattle.spill_pool.specs.Meaning.{Pool, Stored, Used, Sound, Apart, is_spent, unfinished, open_file, among, left, unread}
-use Rattle.spill_pool.specs.Steps.{listed, ahead, swept, pool}
-use Rattle.spill_pool.proofs.Listing.{Agree, agree_put, put_here, put_there, older-push, newest-push, open_push, open_finished, among-push, among-push_parts, among_here, among-push_true, apart_push, rest-push, all_rest, differ}
+use Rattle.spill_pool.specs.Meaning.{Stored, Used, Sound, Apart, is_spent, among, left, unread}
+use Rattle.spill_pool.specs.Steps.{listed, swept, pool}
+use Rattle.spill_pool.proofs.Listing.{Agree, agree_put, older-push, open_push, open_finished, apart_push, rest-push}
 
 module _ (w maximum : ℕ) where
   -- the files of the list stand in the store

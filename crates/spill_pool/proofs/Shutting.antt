@@ -1,13 +1,12 @@
 -- The ways out of a sink's close, and of removing all. Assumes nothing.
-use Rattle.std.proofs.Common.{◌≡◌, ℕ, ◌+◌, ◌-◌, ◌^◌, ◌<◌, ◌≤◌, Bool, true, false, cond, not, eqb, List, [], ◌∷◌, ◌++◌, Some, None, Ok, Err, Option, Result, sym, refl, ap, ◌∙◌, subst, arith}
+use Rattle.std.proofs.Common.{◌≡◌, ℕ, ◌-◌, ◌<◌, ◌≤◌, true, false, cond, not, eqb, List, [], ◌∷◌, Some, None, Ok, Err, Option, Result, sym, refl, ap, ◌∙◌, subst, arith}
 use Rattle.std.specs.List.{AllByRecursion as All}
 use Rattle.std.proofs.lemmas.Bool.{cond-true, cond-false, eq-eqb, ne_eqb}
 use Rattle.refusal.specs.declared.Refusal.{Refusal}
 use Rattle.refusal.specs.declared.Refusal.TheVariants.{Lengths, Closed as Shut}
 use Rattle.bank.specs.declared.Queue.{Queue}
-use Rattle.bank.specs.Lists.{older, push}
+use Rattle.bank.specs.Lists.{older}
 use Rattle.bank.specs.Banks.{Mem, Keeps, size}
-use Rattle.resources.specs.declared.cause.Cause.{Cause}
 use Rattle.resources.specs.declared.cause.Cause.TheVariants.{Device}
 use Rattle.resources.specs.Files.{Files, FinishLawful, finish_after}
 use Rattle.spill_pool.specs.declared.fault.Fault.{Fault}
@@ -17,9 +16,9 @@ use Rattle.spill_pool.specs.declared.SpillPool.{SpillPool}
 use Rattle.spill_pool.specs.Meaning.{Setup, Pool, Kind, Lawful, Replies, Facts, Frame, Sound, Used, CloseLawful, CloseLawfulAt, ended, is_spent, open_file}
 use Rattle.spill_pool.specs.Steps.{Out, out, pool, listed, swept, told, close_last, close_step, removed, remove_step}
 use Rattle.spill_pool.specs.Histories.{closing, closes, removing, removes}
-use Rattle.spill_pool.specs.Calls.{Others, current_of, record_of, Shows, Finishes, Settles, Clears, setup_of, facts_of, Represents, DoesBy, Chronicles, Closes, Removes}
+use Rattle.spill_pool.specs.Calls.{Others, current_of, record_of, Shows, Finishes, Settles, Clears, setup_of, facts_of, Represents, Chronicles, Closes, Removes}
 use Rattle.spill_pool.proofs.Listing.{all_push_parts}
-use Rattle.spill_pool.proofs.Pushing.{Last, last_parts}
+use Rattle.spill_pool.proofs.Pushing.{last_parts}
 use Rattle.spill_pool.proofs.Closing.{closed, cleared}
 use Rattle.spill_pool.proofs.Spilling.{shows_listed, alone}
 use Rattle.spill_pool.proofs.Doing.{unasked, close_unasked, does_by, stays_by, chronicled, shows_live, shows_none}

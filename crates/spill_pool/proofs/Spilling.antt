@@ -1,11 +1,10 @@
 -- A push up to the records: what the write and the placing of its record come to. Assumes nothing.
-use Rattle.std.proofs.Common.{◌≡◌, ℕ, ◌+◌, ◌^◌, ◌<◌, ◌≤◌, Bool, true, false, cond, not, ◌&&◌, eqb, List, [], ◌∷◌, ◌++◌, Some, None, Ok, Err, Option, Result, sym, refl, ap, ◌∙◌, subst, ⊎_elim, arith}
+use Rattle.std.proofs.Common.{◌≡◌, ℕ, ◌^◌, ◌<◌, ◌≤◌, Bool, true, false, not, List, [], ◌∷◌, Some, None, Ok, Err, Option, Result, sym, refl, ap, ◌∙◌, subst, ⊎_elim, arith}
 use Rattle.std.specs.List.{AllByRecursion as All}
-use Rattle.std.proofs.lemmas.Bool.{cases_Bool, cond-true, cond-false, cond_both, both_ways}
-use Rattle.refusal.specs.declared.Refusal.{Refusal}
+use Rattle.std.proofs.lemmas.Bool.{cases_Bool, cond-true, cond-false, cond_both}
 use Rattle.bank.specs.declared.Queue.{Queue}
 use Rattle.bank.specs.Lists.{older, push}
-use Rattle.bank.specs.Banks.{Mem, Keeps, freed}
+use Rattle.bank.specs.Banks.{Mem, Keeps}
 use Rattle.resources.specs.declared.cause.Cause.{Cause}
 use Rattle.resources.specs.declared.cause.Cause.TheVariants.{Device}
 use Rattle.resources.specs.Files.{Files, CreateLawful, create_after}
@@ -16,13 +15,12 @@ use Rattle.spill_pool.specs.declared.OpenFile.{OpenFile}
 use Rattle.spill_pool.specs.declared.Push.{Push}
 use Rattle.spill_pool.specs.declared.Push.TheVariants.{Failed}
 use Rattle.spill_pool.specs.Faults.{store_fault}
-use Rattle.spill_pool.specs.Meaning.{Setup, Pool, Batch, Replies, Sound, Used, WriteLawful, NewLawful, is_full, is_spent, new_file, grown, ended, unfinished, open_file}
-use Rattle.spill_pool.specs.Steps.{Written, rotate, write_by, write, settle, push_new, listed, swept}
-use Rattle.spill_pool.specs.Calls.{Others, current_of, record_of, Shows, parcel, outcome, WritesBy, Writes, Settles, FilesAway, PushesBy, PushesOpen, PushesNew}
+use Rattle.spill_pool.specs.Meaning.{Setup, Batch, Replies, Used, WriteLawful, NewLawful, is_full, is_spent, new_file, grown, open_file}
+use Rattle.spill_pool.specs.Steps.{Written, write_by, write, push_new, listed, swept}
+use Rattle.spill_pool.specs.Calls.{current_of, record_of, Shows, parcel, outcome, Writes, Settles, FilesAway, PushesOpen, PushesNew}
 use Rattle.spill_pool.proofs.Listing.{open_push, open_finished, open_none, all_push_parts}
 use Rattle.spill_pool.proofs.Settling.{spent_parts}
-use Rattle.spill_pool.proofs.Pushing.{Last, last_parts}
-use Rattle.spill_pool.proofs.Guarding.{replies}
+use Rattle.spill_pool.proofs.Pushing.{last_parts}
 
 not_not : (b : Bool) → not (not b) ≡ b
 not_not true = refl

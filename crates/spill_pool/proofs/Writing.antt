@@ -1,15 +1,15 @@
 -- Writing to a file: it stands in the store as its record says, and what is left to read gains the batch if it was kept. Assumes nothing.
-use Rattle.std.proofs.Common.{◌≡◌, ℕ, ◌+◌, ◌^◌, ◌<◌, ◌≤◌, Bool, true, false, cond, ◌&&◌, ◌||◌, eqb, ltb, leb, List, [], ◌∷◌, ◌++◌, map, length, drop, is_some, Some, None, Ok, Err, Option, Result, sym, refl, ap, ◌∙◌, subst, ⊎_elim, arith, length-append}
+use Rattle.std.proofs.Common.{◌≡◌, ℕ, ◌+◌, ◌^◌, ◌<◌, ◌≤◌, true, false, eqb, ltb, leb, List, [], ◌∷◌, ◌++◌, map, length, drop, is_some, Some, None, Ok, Err, Option, Result, sym, refl, ap, ◌∙◌, subst, ⊎_elim, arith, length-append}
 use lib.Seq.{drop-append-le}
 use Rattle.std.specs.List.{AllByRecursion as All}
 use Rattle.std.proofs.ByRecursion.{All-push}
 use Rattle.std.proofs.lemmas.List.{append-nil, map-append}
-use Rattle.std.proofs.lemmas.Bool.{cases_Bool, cond-true, cond-false, cond_both, eqb-false, ltb-false, leb-false, or_parts, both_ways, and_cases}
+use Rattle.std.proofs.lemmas.Bool.{cond_both, eqb-false, ltb-false, leb-false, or_parts, both_ways, and_cases}
 use Rattle.resources.specs.declared.cause.Cause.{Cause}
-use Rattle.resources.specs.Files.{File, Files, put, extended, shut, live_at, append_after, finish_after}
+use Rattle.resources.specs.Files.{File, Files, put, extended, shut, live_at, finish_after}
 use Rattle.resources.specs.History.{batches_of}
 use Rattle.spill_pool.specs.declared.FileRecord.{FileRecord}
-use Rattle.spill_pool.specs.Meaning.{Setup, Batch, Replies, Kind, Lawful, batch_of, Stored, is_full, is_spent, grown, ended, left}
+use Rattle.spill_pool.specs.Meaning.{Setup, Replies, Kind, Lawful, batch_of, Stored, is_full, is_spent, grown, ended, left}
 use Rattle.spill_pool.specs.Steps.{Written, rotate, write_by, write}
 use Rattle.spill_pool.specs.Histories.{keeps}
 use Rattle.spill_pool.proofs.Listing.{put_here, put_there}

@@ -1,10 +1,10 @@
 -- What ties a pool, its file places and the store to their meaning, and what the calls promise. Assumes nothing.
-use Rattle.std.specs.Prelude.{◌≡◌, ℕ, ◌+◌, ◌^◌, ◌<◌, ◌≤◌, Bool, true, false, cond, not, ◌&&◌, ◌||◌, List, [], ◌∷◌, ◌++◌, length, take, drop, is_ok, Some, None, Ok, Err, Option, Result, MatchResult, ◌==◌, nat_le, nat_lt}
+use Rattle.std.specs.Prelude.{◌≡◌, ℕ, ◌^◌, ◌<◌, ◌≤◌, true, false, cond, not, ◌&&◌, ◌||◌, List, [], ◌∷◌, take, drop, is_ok, Some, None, Ok, Err, Option, Result, MatchResult, ◌==◌, nat_le, nat_lt}
 use Rattle.refusal.specs.declared.Refusal.{Refusal}
 use Rattle.refusal.specs.declared.Refusal.TheVariants.{Lengths, Range}
 use Rattle.bank.specs.declared.Queue.{Queue}
 use Rattle.bank.specs.Lists.{push, older}
-use Rattle.bank.specs.Banks.{Mem, view, size, freed, Keeps}
+use Rattle.bank.specs.Banks.{Mem, size, freed, Keeps}
 use Rattle.resources.specs.declared.cause.Cause.{Cause}
 use Rattle.resources.specs.Files.{Files, CreateLawful, AppendLawful, append_after, FinishLawful, finish_after, remove_after}
 use Rattle.spill_pool.specs.declared.fault.Fault.{Fault}
@@ -17,7 +17,7 @@ use Rattle.spill_pool.specs.declared.PoolPoll.{PoolPoll}
 use Rattle.spill_pool.specs.declared.SpillPool.{SpillPool}
 use Rattle.spill_pool.specs.Faults.{store_fault}
 use Rattle.spill_pool.specs.Meaning.{Setup, Pool, Batch, Kind, Replies, Facts, Frame, Sound, WriteLawful, NewLawful, PushLawful, PollLawful, CloseLawful, batch_of, is_spent, open_file, opened}
-use Rattle.spill_pool.specs.Steps.{Out, Written, write, settle, push_new, told, listed, ahead, swept, removed, push_step, poll_step, close_step, remove_step}
+use Rattle.spill_pool.specs.Steps.{Out, write, settle, push_new, told, listed, ahead, swept, removed, push_step, poll_step, close_step, remove_step}
 use Rattle.spill_pool.specs.Histories.{Event, Run, Laws}
 
 -- queues of others in the file places, with what they hold

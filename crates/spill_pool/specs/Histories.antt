@@ -1,7 +1,7 @@
 -- Laws of histories: what holds after any list of pool calls since opening. Assumes nothing.
 --
 -- A history is the list of the calls so far, the newest first, each with its answer. The words below speak of the history alone.
-use Rattle.std.specs.Prelude.{◌≡◌, ℕ, ◌<◌, Bool, true, false, List, [], ◌∷◌, ◌++◌, length, Some, None, Ok, Err, Option, Result, ◌==◌}
+use Rattle.std.specs.Prelude.{◌≡◌, ℕ, ◌<◌, Bool, true, false, List, [], ◌∷◌, ◌++◌, length, Ok, Err, Option, Result, ◌==◌}
 use Rattle.std.specs.List.{AllByRecursion as All}
 use Rattle.refusal.specs.declared.Refusal.{Refusal}
 use Rattle.resources.specs.Files.{Files}

@@ -1,7 +1,7 @@
 -- The four calls, each as a step on the pool's meaning and the store's, with the store's answers as an argument. Assumes nothing.
 --
 -- A step reads as the table of refusals does, the smallest number first, and then what the call does.
-use Rattle.std.specs.Prelude.{ℕ, ◌+◌, ◌-◌, Bool, true, false, cond, not, List, [], ◌∷◌, ◌++◌, Some, None, Ok, Err, Option, Result, ◌==◌, nat_lt}
+use Rattle.std.specs.Prelude.{ℕ, ◌-◌, cond, not, List, [], ◌∷◌, Some, None, Ok, Err, Option, Result, ◌==◌, nat_lt}
 use Rattle.refusal.specs.declared.Refusal.{Refusal}
 use Rattle.refusal.specs.declared.Refusal.TheVariants.{Lengths, Files as NoPlace, Closed as Shut}
 use Rattle.bank.specs.Lists.{older, push}

@@ -15,6 +15,7 @@
 // Derived from spill/spill_pool.rs of datafusion-physical-plan 55.0.0 (Apache-2.0; see NOTICE). Changed: carried over to Rattle;
 // files are records in a bank that is handed in with the store, drops are closes, and wakers are left out.
 #![tactic(auto)]
+
 ghost use Rattle.std.specs.Prelude.{◌≡◌, ℕ, ◌+◌, ◌-◌, ◌^◌, ◌<◌, not, ◌&&◌, ◌||◌, length, if◌then◌else◌, nat_eq, nat_le, nat_lt};
 ghost use Rattle.bank.specs.Banks.{view, size as extent};
 ghost use Rattle.bank.specs.Lists.{oldest as oldest_of, newest as newest_of};

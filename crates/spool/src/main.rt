@@ -6,6 +6,7 @@
 // The same notices and receipts go through a block store and through a log store. Both are too small for all, and both stand below a
 // tripping store, so that some calls fail. Each action is said in a line.
 #![tactic(auto)]
+
 use anyhow::anyhow;
 use resources::cause::Cause;
 use resources::ceiling::Ceiling;

@@ -1,5 +1,5 @@
 -- What the calls of a block store do. Assumes nothing.
-use Rattle.std.proofs.Common.{◌≡◌, ℕ, ◌+◌, ◌-◌, ◌*◌, ◌<◌, ◌≤◌, Bool, true, false, cond, ◌&&◌, ltb, List, [], ◌∷◌, ◌++◌, length, get_or, take, drop, set, Some, None, vec_items, Option, sym, refl, ap, ◌∙◌, subst, ⊎_elim, arith, length-drop, length-set, length-take}
+use Rattle.std.proofs.Common.{◌≡◌, ℕ, ◌+◌, ◌*◌, ◌<◌, ◌≤◌, true, false, ltb, List, length, get_or, take, drop, set, vec_items, sym, refl, ap, ◌∙◌, subst, ⊎_elim, arith, length-drop, length-set, length-take}
 use lib.Seq.{paste}
 use Rattle.std.proofs.lemmas.List.Edits.{length-paste}
 use Rattle.std.proofs.lemmas.List.{get_or-set_same, get_or-set_other}
@@ -7,11 +7,10 @@ use Rattle.std.proofs.lemmas.Bool.{cases_lt, lt-ltb, le-ltb, cases_eq}
 use Rattle.stores.specs.declared.node.Node.{Node}
 use Rattle.stores.specs.declared.node.Entry.{Entry}
 use Rattle.stores.specs.declared.block.BlockStore.{BlockStore}
-use Rattle.resources.specs.Files.{Files, put, extended, may_append, length_ok, live_at, Ask, append, Reply, done}
+use Rattle.resources.specs.Files.{put, extended}
 use Rattle.stores.specs.Chains.{node, blank_node, entry, linked, shifted_nodes, shifted_entries, jump_of, Short, Cleared}
-use Rattle.stores.specs.Stores.{files_of, files_in, load_of, block_val, block_files, block_load, blocks, block_view}
+use Rattle.stores.specs.Stores.{files_of, files_in, load_of, block_val, block_files, block_load, blocks}
 use Rattle.stores.proofs.Orders.{Order, order_of}
-use Rattle.stores.proofs.Shifting.{node_here, node_other, nodes_long}
 use Rattle.stores.proofs.Layings.{laid_here, laid_below, laid_above, stretch_same}
 use Rattle.stores.proofs.Tables.{all_nodes}
 use Rattle.stores.proofs.Filing.{append_files}

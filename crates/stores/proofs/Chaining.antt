@@ -1,11 +1,11 @@
 -- Entries by number, and what a chain holds. Assumes nothing.
-use Rattle.std.proofs.Common.{◌≡◌, ℕ, zero, suc, ◌+◌, ◌-◌, ◌<◌, ◌≤◌, Bool, true, false, cond, eqb, ◌≢◌, ◌⊎◌, List, [], ◌∷◌, ◌++◌, length, get_or, sym, refl, ap, ◌∙◌, subst, inl, inr, ⊎_elim, add-one, arith}
+use Rattle.std.proofs.Common.{◌≡◌, ℕ, zero, suc, ◌+◌, ◌-◌, ◌<◌, ◌≤◌, true, false, eqb, List, [], ◌∷◌, ◌++◌, length, get_or, sym, refl, ap, ◌∙◌, subst, ⊎_elim, arith}
 use native.Mathlib.Nat.{suc_inj}
 use Rattle.std.proofs.lemmas.List.{get_or_append_left, get_or_push, length_push}
-use Rattle.std.proofs.lemmas.Bool.{eq-eqb, ne_eqb, cond-true, cond-false, cases_eq, eqb-true, cases_Bool, eqb-false}
+use Rattle.std.proofs.lemmas.Bool.{eq-eqb, ne_eqb, cond-true, cond-false, cases_eq, eqb-true, cases_Bool}
 use Rattle.stores.specs.declared.node.Node.{Node}
 use Rattle.stores.specs.declared.node.Entry.{Entry}
-use Rattle.stores.specs.Chains.{node, entry, len_of, walk, Owned, Backed, Jumps, Lasts, Single, Apart, Full, Sound}
+use Rattle.stores.specs.Chains.{node, entry, len_of, walk, Apart, Sound}
 
 -- apart entries, the first taken away
 apart_rest : (e : Entry) (es : List Entry) → Apart [] (e ∷ es) → Apart [] es

@@ -1,15 +1,15 @@
 -- Changes of the table of entries. Assumes nothing.
-use Rattle.std.proofs.Common.{◌≡◌, ℕ, zero, suc, ◌+◌, ◌-◌, ◌^◌, ◌<◌, ◌≤◌, Bool, true, false, cond, eqb, ltb, ◌≢◌, ◌⊎◌, List, [], ◌∷◌, ◌++◌, length, get_or, take, drop, set, sum_by, sym, refl, ap, ◌∙◌, subst, inl, inr, ⊎_elim, add-one, arith, length-set}
+use Rattle.std.proofs.Common.{◌≡◌, ℕ, suc, ◌+◌, ◌-◌, ◌^◌, ◌<◌, ◌≤◌, ltb, List, [], ◌∷◌, length, take, drop, set, sum_by, sym, refl, ap, ◌∙◌, subst, ⊎_elim, add-one, arith, length-set}
 use Rattle.std.specs.List.{remove}
 use Rattle.std.proofs.lemmas.List.{get_or-set_same, get_or-set_other, ext_get_or, get_or_append_left, get_or_push, length_push, drop_more}
 use Rattle.std.proofs.lemmas.List.Edits.{get_or-remove_below, get_or-remove_above, length-remove}
 use Rattle.std.proofs.lemmas.List.Sums.{sum_by-set, sum_by-append, sum_by_push, sum_by-take-drop, sum_by-cons}
-use Rattle.std.proofs.lemmas.Bool.{cases_eq, cases_lt, cond_both, ltb-true, ltb-false, cond-true, cond-false, lt-ltb, le-ltb}
+use Rattle.std.proofs.lemmas.Bool.{cases_eq, cases_lt, cond_both, ltb-true, cond-true, cond-false, lt-ltb, le-ltb}
 use Rattle.stores.specs.declared.node.Node.{Node}
 use Rattle.stores.specs.declared.node.Entry.{Entry}
-use Rattle.stores.specs.Chains.{node, entry, blank_entry, len_of, Owned, Backed, Jumps, Lasts, Single, Apart, Full, Sound, Numbers, Unused, Idle, closed, closed_up, spare, renewed, next_after, shifted_nodes, shifted_entries, jump_of, Cleared, held}
+use Rattle.stores.specs.Chains.{node, entry, blank_entry, Owned, Lasts, Apart, Full, Sound, Numbers, closed, closed_up, spare, renewed, next_after, shifted_nodes, shifted_entries, jump_of, Cleared}
 use Rattle.stores.proofs.Chaining.{owner_entry, owned_from}
-use Rattle.stores.proofs.Shifting.{jump_ok, nodes_long, entries_long, node_here, node_other, entry_to, entry_from, entry_other, number_same, live_same, walk_other}
+use Rattle.stores.proofs.Shifting.{jump_ok, nodes_long, entries_long, node_here, node_other, number_same, live_same, walk_other}
 use Rattle.stores.proofs.Orders.{Order, sound_of, order_from}
 
 pub close_more_below : (old es : List Entry) (i j : ℕ) (e : Entry) → i ≤ j → ((k : ℕ) → k < i → entry es k ≡ entry old k) → (k : ℕ) → k < i → entry (set es j e) k ≡ entry old k

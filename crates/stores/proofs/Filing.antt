@@ -1,21 +1,20 @@
 -- What the steps of a directory do to the files, whatever the nodes hold. Assumes nothing.
-use Rattle.std.proofs.Common.{◌≡◌, ℕ, zero, suc, ◌+◌, ◌-◌, ◌<◌, ◌≤◌, Bool, true, false, cond, eqb, ltb, ◌⊎◌, List, [], ◌∷◌, ◌++◌, map, length, get_or, set, Some, None, Option, sym, refl, ap, ◌∙◌, subst, inl, inr, ⊎_elim, arith}
+use Rattle.std.proofs.Common.{◌≡◌, ℕ, zero, suc, ◌+◌, ◌-◌, ◌<◌, ◌≤◌, Bool, true, false, eqb, ◌⊎◌, List, [], ◌∷◌, ◌++◌, length, set, Some, None, Option, sym, ap, ◌∙◌, subst, inl, inr, ⊎_elim, arith}
 use mathlib.Core.Path.{fun_ext}
-use Rattle.std.specs.List.{slice_get}
 use Rattle.std.proofs.lemmas.List.{length_push}
 use Rattle.std.proofs.lemmas.Option.{slice_get-get_or, slice_get_past}
 use Rattle.stores.proofs.Lookups.{put_twice}
 use Rattle.std.proofs.lemmas.Bool.{cases_eq, cond-true, cond-false, eq-eqb, ne_eqb}
 use Rattle.stores.specs.declared.node.Node.{Node}
 use Rattle.stores.specs.declared.node.Entry.{Entry}
-use Rattle.resources.specs.Files.{File, Files, put, fresh, live_at, extended, shut, batch_at}
+use Rattle.resources.specs.Files.{File, Files, put, live_at, extended, shut, batch_at}
 use Rattle.stores.specs.Chains.{node, entry, held, walk, linked, closed, closed_up, shifted_nodes, shifted_entries, jump_of, Cleared, Located, Sound}
 use Rattle.stores.specs.Stores.{file_of, files_of, files_in, Load, load_of, without, restarts}
 use Rattle.stores.proofs.Chaining.{length-walk, walk_at}
 use Rattle.stores.proofs.Shifting.{jump_ok, node_here, node_other, number_same, live_same, walk_other, walk_to}
 use Rattle.stores.proofs.Orders.{Order, sound_of}
 use Rattle.stores.proofs.Entries.{entry_closed, entry_kept}
-use Rattle.stores.proofs.Tables.{find_at, find_none, files_put, files_set, load_files, load_batches, files_drop, load_drop}
+use Rattle.stores.proofs.Tables.{find_at, find_none, files_put, load_files, load_batches, files_drop, load_drop}
 
 -- an entry in use has the number, or none has
 pub present : (es : List Entry) (n k : ℕ) → ((i : ℕ) × (0 < i) × (i ≤ k) × ((entry es i).number ≡ n)) ⊎ ((j : ℕ) → 0 < j → j ≤ k → (entry es j).number ≡ n → ⊥)

@@ -1,8 +1,8 @@
 -- Words written to a memory, and words copied from it. Assumes nothing.
-use Rattle.std.proofs.Common.{◌≡◌, ℕ, ◌+◌, ◌-◌, ◌*◌, ◌<◌, ◌≤◌, min, List, [], ◌∷◌, ◌++◌, length, get_or, take, drop, set, sym, refl, ap, ◌∙◌, subst, ⊎_elim, zero-add, arith, length-append, length-drop, length-set, length-take}
+use Rattle.std.proofs.Common.{◌≡◌, ℕ, ◌+◌, ◌-◌, ◌<◌, ◌≤◌, List, ◌++◌, length, get_or, take, drop, set, sym, refl, ap, ◌∙◌, zero-add, arith, length-drop, length-take}
 use lib.Seq.{paste}
-use Rattle.std.proofs.lemmas.List.{get_or-drop, get_or-take, ext_get_or, get_or_append_left, get_or-append_right, take_at, take_all}
-use Rattle.std.proofs.lemmas.List.Edits.{paste_more, paste_all, length-paste, take-paste, drop-paste}
+use Rattle.std.proofs.lemmas.List.{get_or-drop, get_or-take, ext_get_or, get_or_append_left, get_or-append_right}
+use Rattle.std.proofs.lemmas.List.Edits.{paste_more, paste_all, length-paste}
 
 pub lay_more : (m : List ℕ) (at : ℕ) (s : List ℕ) (i : ℕ) (ws : List ℕ) → i < length s → at + length s ≤ length m → ws ≡ paste m at s i → set ws (at + i) (get_or s i 0) ≡ paste m at s (i + 1)
 lay_more m at s i ws l fits e = ap (λ (x : List ℕ). set x (at + i) (get_or s i 0)) e ∙ paste_more m at s i 0 (omega arith) l

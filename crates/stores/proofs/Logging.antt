@@ -1,21 +1,20 @@
 -- What the calls of a log store do. Assumes nothing.
-use Rattle.std.proofs.Common.{◌≡◌, ℕ, ◌+◌, ◌-◌, ◌*◌, ◌<◌, ◌≤◌, Bool, true, false, cond, ◌&&◌, eqb, ltb, leb, List, [], ◌∷◌, ◌++◌, length, get_or, take, drop, set, Some, None, vec_items, Option, sym, refl, ap, ◌∙◌, subst, ⊎_elim, arith, length-drop, length-set, length-take}
+use Rattle.std.proofs.Common.{◌≡◌, ℕ, ◌+◌, ◌-◌, ◌*◌, ◌<◌, ◌≤◌, true, false, eqb, leb, List, length, get_or, take, drop, set, Some, None, vec_items, Option, sym, refl, ap, ◌∙◌, subst, ⊎_elim, arith, length-drop, length-set, length-take}
 use lib.Seq.{paste}
 use Rattle.std.proofs.lemmas.List.Edits.{length-paste}
 use Rattle.std.proofs.lemmas.List.{get_or-set_same, get_or-set_other}
-use Rattle.std.proofs.lemmas.Bool.{cases_lt, lt-leb, le-leb, cases_eq, cond-true, cond-false, eq-eqb, ne_eqb}
+use Rattle.std.proofs.lemmas.Bool.{lt-leb, le-leb, cases_eq, eq-eqb, ne_eqb}
 use Rattle.stores.specs.declared.node.Node.{Node}
 use Rattle.stores.specs.declared.node.Entry.{Entry}
 use Rattle.stores.specs.declared.log.LogStore.{LogStore}
-use Rattle.resources.specs.Files.{File, Files, put, extended, may_append, length_ok}
-use Rattle.stores.specs.Chains.{node, blank_node, entry, linked, closed_up, shifted_nodes, shifted_entries, jump_of, Below, Marked, Short, Cleared}
+use Rattle.resources.specs.Files.{File, put, extended}
+use Rattle.stores.specs.Chains.{node, blank_node, entry, linked, shifted_nodes, shifted_entries, jump_of, Below, Marked, Short, Cleared}
 use Rattle.stores.specs.Stores.{files_of, files_in, Load, load_of, without, log_val, log_files, log_load, log_words, recorded, zeroed, restarts}
 use Rattle.stores.proofs.Chaining.{owner_entry}
 use Rattle.stores.proofs.Orders.{Order, order_of, sound_of}
 use Rattle.stores.proofs.Shifting.{entry_from, jump_ok}
 use Rattle.stores.proofs.Blocking.{short_set}
-use Rattle.stores.proofs.Entries.{closed_below}
-use Rattle.stores.proofs.Layings.{laid_here, laid_below, laid_above, stretch_same}
+use Rattle.stores.proofs.Layings.{laid_here, laid_below, stretch_same}
 use Rattle.stores.proofs.Tables.{all_nodes, files_long}
 use Rattle.stores.proofs.Filing.{append_files, file_at}
 

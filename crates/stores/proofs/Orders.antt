@@ -1,10 +1,10 @@
 -- What a directory keeps, as one fact. Assumes nothing.
-use Rattle.std.proofs.Common.{◌≡◌, ℕ, ◌+◌, ◌-◌, ◌^◌, ◌<◌, ◌≤◌, Bool, true, false, cond, eqb, List, [], ◌∷◌, ◌++◌, length, get_or, set, vec_items, sym, refl, ap, ◌∙◌, subst, arith, length-set}
+use Rattle.std.proofs.Common.{◌≡◌, ℕ, ◌-◌, ◌^◌, ◌<◌, ◌≤◌, cond, eqb, List, length, set, vec_items, sym, ap, ◌∙◌, subst, arith}
 use Rattle.std.proofs.lemmas.List.Sums.{get_or-le-sum_by}
 use Rattle.stores.specs.declared.node.Node.{Node}
 use Rattle.stores.specs.declared.node.Entry.{Entry}
 use Rattle.stores.specs.declared.directory.Directory.{Directory}
-use Rattle.stores.specs.Chains.{node, entry, blank_entry, Owned, Backed, Jumps, Lasts, LastIn, LastOwner, LastPlace, Single, Apart, Full, Sound, Numbers, Unused, Idle, linked, shorter, longer, shifted_nodes, shifted_entries, jump_of}
+use Rattle.stores.specs.Chains.{node, entry, blank_entry, Owned, Backed, Jumps, LastIn, LastOwner, LastPlace, Single, Apart, Full, Sound, Numbers, Unused, Idle, linked, shorter, longer, shifted_nodes, shifted_entries, jump_of}
 use Rattle.stores.proofs.Shifting.{shift_sound, shift_table, shift_zero, shift_numbers, shift_unused, shift_idle, jump_ok, nodes_long}
 
 abbrev pub Order : List Node → List Entry → ℕ → ℕ → Type 0

@@ -1,13 +1,13 @@
 -- What the delivered stores answer is lawful. Assumes nothing.
-use Rattle.std.proofs.Common.{◌≡◌, ℕ, ◌+◌, ◌-◌, ◌^◌, ◌<◌, ◌≤◌, Bool, true, false, cond, ◌&&◌, eqb, ltb, leb, List, [], ◌∷◌, ◌++◌, length, get_or, take, drop, set, is_some, Some, None, Ok, Err, Option, Result, sym, refl, ap, ◌∙◌, subst, ⊎_elim, arith}
+use Rattle.std.proofs.Common.{◌≡◌, ℕ, ◌+◌, ◌<◌, ◌≤◌, Bool, true, false, cond, ltb, leb, List, ◌++◌, length, drop, is_some, Some, None, Ok, Err, Option, Result, sym, refl, ap, ◌∙◌, subst, ⊎_elim, arith}
 use Rattle.std.specs.Option.{option_map}
 use Rattle.std.proofs.lemmas.Bool.{cond-true, cond-false, cases_lt, lt-ltb, le-ltb, and_left, and_right, and_from, and_parts, leb-true, ltb-true}
 use Rattle.resources.specs.declared.cause.Cause.{Cause}
-use Rattle.resources.specs.declared.cause.Cause.TheVariants.{NoSpace, Misuse, Device}
+use Rattle.resources.specs.declared.cause.Cause.TheVariants.{NoSpace, Misuse}
 use Rattle.stores.specs.declared.node.Node.{Node}
 use Rattle.stores.specs.declared.node.Entry.{Entry}
-use Rattle.resources.specs.Files.{File, Files, put, fresh, live_at, length_ok, may_append, batch_at, CreateLawful, create_after, ReadLawful, read_place, laid, Ask, create, append, finish, read, remove, Reply, number, done, failed, numbered, finished}
-use Rattle.stores.specs.Chains.{entry, Located}
+use Rattle.resources.specs.Files.{Files, live_at, length_ok, may_append, batch_at, CreateLawful, create_after, laid, create, append, finish, number, done, failed, numbered}
+use Rattle.stores.specs.Chains.{entry}
 use Rattle.stores.specs.Stores.{files_of, files_in, Load, load_of, load_after, View, answer, read_reply}
 use Rattle.stores.proofs.Orders.{Order}
 use Rattle.stores.proofs.Tables.{files_long, files_create, load_create, new_none, new_above, new_below}

@@ -1,11 +1,11 @@
 -- One node goes from the end of one chain to the end of another: the chains stay in good order. Assumes nothing.
-use Rattle.std.proofs.Common.{◌≡◌, ℕ, zero, suc, ◌+◌, ◌-◌, ◌<◌, ◌≤◌, Bool, true, false, cond, eqb, ◌≢◌, ◌⊎◌, List, [], ◌∷◌, ◌++◌, length, get_or, set, sum_by, sym, refl, ap, ◌∙◌, subst, inl, inr, ⊎_elim, add-one, arith, length-set}
+use Rattle.std.proofs.Common.{◌≡◌, ℕ, suc, ◌+◌, ◌-◌, ◌<◌, ◌≤◌, cond, eqb, List, [], ◌∷◌, ◌++◌, length, set, sym, refl, ap, ◌∙◌, subst, ⊎_elim, add-one, arith, length-set}
 use Rattle.std.proofs.lemmas.List.{get_or-set_same, get_or-set_other}
 use Rattle.std.proofs.lemmas.List.Sums.{sum_by-set}
 use Rattle.std.proofs.lemmas.Bool.{eq-eqb, ne_eqb, cond-true, cond-false, cond_both, cases_eq}
 use Rattle.stores.specs.declared.node.Node.{Node}
 use Rattle.stores.specs.declared.node.Entry.{Entry}
-use Rattle.stores.specs.Chains.{node, entry, len_of, walk, blank_node, blank_entry, Owned, Backed, Jumps, Lasts, Single, Apart, Full, Sound, shorter, longer, linked, shifted_nodes, shifted_entries, Numbers, Unused, Idle, jump_of, far_of}
+use Rattle.stores.specs.Chains.{node, entry, walk, blank_entry, Owned, Backed, Jumps, Lasts, Single, Apart, Full, Sound, shorter, longer, linked, shifted_nodes, shifted_entries, Numbers, Unused, Idle, jump_of, far_of}
 use Rattle.stores.proofs.Chaining.{owner_entry, place_below, owned_from, Begins, begins_back, walk_frame}
 
 -- what a jump behind the last of the entry t may be

@@ -1,16 +1,16 @@
 -- Files by number, from the entries in use. Assumes nothing.
-use Rattle.std.proofs.Common.{◌≡◌, ℕ, zero, suc, ◌+◌, ◌-◌, ◌^◌, ◌<◌, ◌≤◌, min, Bool, true, false, cond, eqb, ltb, List, [], ◌∷◌, ◌++◌, map, length, get_or, take, drop, set, Some, None, sum_by, Option, sym, refl, ap, ◌∙◌, subst, ⊎_elim, add-one, arith, length-drop, length-set, length-take}
+use Rattle.std.proofs.Common.{◌≡◌, ℕ, zero, suc, ◌+◌, ◌-◌, ◌^◌, ◌<◌, ◌≤◌, Bool, true, List, [], ◌∷◌, ◌++◌, map, length, get_or, take, drop, set, Some, None, sum_by, sym, refl, ap, ◌∙◌, ⊎_elim, add-one, arith, length-drop, length-set, length-take}
 use mathlib.Core.Path.{fun_ext}
-use Rattle.std.specs.List.{AllByRecursion, remove}
-use Rattle.std.proofs.lemmas.List.{get_or-take, get_or-drop, get_or-map, length-map, ext_get_or, get_or-set_same, get_or-set_other, get_or_default, length_push, get_or_append_left, get_or_push, take_all, drop_all, take_more, drop_more, map_push}
+use Rattle.std.specs.List.{remove}
+use Rattle.std.proofs.lemmas.List.{get_or-take, get_or-drop, get_or-map, length-map, ext_get_or, get_or-set_same, get_or-set_other, length_push, take_more, drop_more, map_push}
 use Rattle.std.proofs.lemmas.List.Edits.{get_or-remove_below, get_or-remove_above, length-remove}
 use Rattle.std.proofs.lemmas.List.Sums.{sum_by-set, sum_by_push, sum_by-append, sum_by-take-drop, sum_by-cons, sum_by_more}
-use Rattle.std.proofs.lemmas.Bool.{cases_eq, cases_lt, eq-eqb, ne_eqb, eqb-true, eqb-false, cases_Bool, lt-ltb}
+use Rattle.std.proofs.lemmas.Bool.{cases_eq, cases_lt, eq-eqb, ne_eqb}
 use Rattle.stores.specs.declared.node.Node.{Node}
 use Rattle.stores.specs.declared.node.Entry.{Entry}
-use Rattle.resources.specs.Files.{File, Files, put, fresh}
+use Rattle.resources.specs.Files.{File, put, fresh}
 use Rattle.stores.specs.Chains.{node, entry, blank_entry, Apart, held, walk, closed_up}
-use Rattle.stores.specs.Stores.{in_use, numbers_of, file_of, files_of, lookup, files_in, Load, load_of}
+use Rattle.stores.specs.Stores.{in_use, numbers_of, file_of, files_of, lookup, files_in, load_of}
 use Rattle.stores.proofs.Lookups.{Hit, Missing, lookup_hit, lookup_missing, lookup_set, lookup_push, lookup_remove}
 use Rattle.stores.proofs.Orders.{Order}
 use Rattle.stores.proofs.Chaining.{length-walk}

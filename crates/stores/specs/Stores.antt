@@ -1,5 +1,5 @@
 -- What the delivered stores hold, and exactly what they answer. Assumes nothing.
-use Rattle.std.specs.Prelude.{◌≡◌, ℕ, ◌+◌, ◌-◌, ◌*◌, ◌/◌, ◌<◌, ◌≤◌, Bool, true, false, cond, ◌&&◌, ◌⊎◌, List, [], ◌∷◌, ◌++◌, map, length, take, drop, Some, None, vec_items, sum_by, Option, ◌==◌, ◌≢◌, nat_eq, nat_le, nat_lt, slice_set}
+use Rattle.std.specs.Prelude.{◌≡◌, ℕ, ◌+◌, ◌-◌, ◌*◌, ◌/◌, ◌<◌, ◌≤◌, Bool, false, cond, ◌⊎◌, List, [], ◌∷◌, map, length, take, drop, Some, None, vec_items, sum_by, Option, ◌==◌, ◌≢◌, nat_eq, nat_le, nat_lt, slice_set}
 use Rattle.std.proofs.Math.Seq.{paste}
 use Rattle.resources.specs.declared.cause.Cause.TheVariants.{NoSpace, Misuse}
 use Rattle.stores.specs.declared.node.Node.{Node}
@@ -7,7 +7,7 @@ use Rattle.stores.specs.declared.node.Entry.{Entry}
 use Rattle.stores.specs.declared.block.BlockStore.{BlockStore}
 use Rattle.stores.specs.declared.log.LogStore.{LogStore}
 use Rattle.resources.specs.Files.{File, Files, live_at, batch_at, may_append, Ask, create, append, finish, read, remove, Reply, number, done, failed}
-use Rattle.stores.specs.Chains.{node, entry, held}
+use Rattle.stores.specs.Chains.{entry, held}
 
 -- the files in use, in the order of their creation
 abbrev pub in_use : List Entry → ℕ → List Entry

@@ -1,4 +1,4 @@
-use Rattle.std.proofs.Common.{◌≡◌, sym, refl, ◌∙◌, arith, rules}
+use Rattle.std.proofs.Common.{refl, ◌∙◌, arith}
 use Rattle.distributor_channels.proofs.Naming.{drops_none, drops_more, drops_all}
 use Rattle.distributor_channels.proofs.discard.Goals as goal
 

@@ -1,4 +1,4 @@
-use Rattle.std.proofs.Common.{◌≡◌, sym, refl, ◌∙◌, arith, rules}
+use Rattle.std.proofs.Common.{refl, ◌∙◌, arith}
 use Rattle.distributor_channels.proofs.Naming.{some_none, some_more, all_named}
 use Rattle.distributor_channels.proofs.name_all.Goals as goal
 

@@ -1,4 +1,4 @@
-use Rattle.std.proofs.Common.{◌≡◌, length, sym, refl, ap, ◌∙◌, length-set, rules}
+use Rattle.std.proofs.Common.{rules}
 use Rattle.distributor_channels.proofs.Naming.{one_none, one_some}
 use Rattle.distributor_channels.proofs.name_one.Goals as goal
 

@@ -1,4 +1,4 @@
-use Rattle.std.proofs.Common.{◌≡◌, sym, refl, ◌∙◌, rules}
+use Rattle.std.proofs.Common.{sym, refl, ◌∙◌}
 use Rattle.spill_pool.proofs.Placing.{advances_spent, advances_kept}
 use Rattle.spill_pool.proofs.advance.Goals as goal
 

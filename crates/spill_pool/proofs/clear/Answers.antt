@@ -1,4 +1,4 @@
-use Rattle.std.proofs.Common.{◌≡◌, sym, refl, ◌∙◌, arith, rules}
+use Rattle.std.proofs.Common.{refl, ◌∙◌, arith}
 use Rattle.spill_pool.proofs.Placing.{clears_none, clears_more, clears_all}
 use Rattle.spill_pool.proofs.clear.Goals as goal
 

@@ -1,4 +1,4 @@
-use Rattle.std.proofs.Common.{◌≡◌, sym, refl, ◌∙◌, rules}
+use Rattle.std.proofs.Common.{sym, refl, ◌∙◌}
 use Rattle.spill_pool.proofs.Placing.{files_spent, files_kept}
 use Rattle.spill_pool.proofs.file_away.Goals as goal
 

@@ -1,4 +1,4 @@
-use Rattle.std.proofs.Common.{◌≡◌, refl, ap, rules}
+use Rattle.std.proofs.Common.{refl, ap}
 use Rattle.spill_pool.specs.declared.Push.TheVariants.{Failed}
 use Rattle.spill_pool.specs.Meaning.{Setup}
 use Rattle.spill_pool.proofs.Spilling.{pushes_new, pushes_unmade}

@@ -1,4 +1,3 @@
-use Rattle.std.proofs.Common.{◌≡◌, refl, rules}
 use Rattle.spill_pool.specs.Meaning.{Setup}
 use Rattle.spill_pool.proofs.Spilling.{pushes_open}
 use Rattle.spill_pool.proofs.push_open.Goals as goal

@@ -1,4 +1,3 @@
-use Rattle.std.proofs.Common.{rules}
 use Rattle.spill_pool.proofs.Placing.{removes_oldest, removes_none}
 use Rattle.spill_pool.proofs.remove_oldest.Goals as goal
 

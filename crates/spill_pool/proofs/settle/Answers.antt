@@ -1,4 +1,4 @@
-use Rattle.std.proofs.Common.{◌≡◌, sym, refl, ◌∙◌, rules}
+use Rattle.std.proofs.Common.{sym, refl, ◌∙◌}
 use Rattle.spill_pool.proofs.Placing.{settles_none, settles_spent, settles_kept}
 use Rattle.spill_pool.proofs.settle.Goals as goal
 

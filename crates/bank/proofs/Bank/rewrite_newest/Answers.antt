@@ -1,5 +1,5 @@
-use Rattle.std.proofs.Common.{◌∷◌, refl, rules}
-use Rattle.bank.specs.Lists.{newest, rest, older, push}
+use Rattle.std.proofs.Common.{refl, rules}
+use Rattle.bank.specs.Lists.{newest, older, push}
 use Rattle.bank.proofs.Steps.{rewrites_none, rewrites_newest}
 use Rattle.bank.proofs.Bank.rewrite_newest.Goals as goal
 

@@ -1,5 +1,5 @@
 use Rattle.std.proofs.Common.{◌∷◌, refl, rules}
-use Rattle.bank.specs.Lists.{oldest, rest, older, push}
+use Rattle.bank.specs.Lists.{oldest, rest}
 use Rattle.bank.proofs.Steps.{rewrites_none, rewrites_oldest}
 use Rattle.bank.proofs.Bank.rewrite_oldest.Goals as goal
 

@@ -1,9 +1,8 @@
-use Rattle.std.proofs.Common.{◌≡◌, ◌≤◌, length, replicate, Some, sym, refl, ap, ◌∙◌, arith, rules}
+use Rattle.std.proofs.Common.{◌≤◌, length, replicate, Some, sym, refl, ◌∙◌, arith}
 use Rattle.std.proofs.lemmas.Bool.Decides.{nat_tests}
 use Rattle.distributor_channels.specs.declared.Channel.{Channel}
 use Rattle.distributor_channels.specs.declared.Channels.{Channels}
-use Rattle.bank.specs.Banks.{size}
-use Rattle.distributor_channels.specs.Calls.{seen, unopened}
+use Rattle.distributor_channels.specs.Calls.{seen}
 use Rattle.distributor_channels.proofs.Opening.{stands_opened, fits-opened}
 use Rattle.distributor_channels.proofs.Channels.open.Goals as goal
 

@@ -1,7 +1,6 @@
-use Rattle.std.proofs.Common.{◌≡◌, ◌+◌, ◌-◌, true, false, is_ok, is_err, Ok, Err, Result, sym, refl, ap, ◌∙◌, arith, rules}
-use Rattle.std.proofs.lemmas.Bool.{both_ways, not-true, not-false}
+use Rattle.std.proofs.Common.{◌≡◌, true, false, is_ok, is_err, Ok, Err, Result, sym, refl, ap, ◌∙◌, rules}
+use Rattle.std.proofs.lemmas.Bool.{both_ways}
 use Rattle.std.proofs.lemmas.Result.{err_from_is_err_and}
-use Rattle.distributor_channels.specs.Meaning.{bit}
 use Rattle.distributor_channels.specs.Steps.{receive_step}
 use Rattle.distributor_channels.specs.Histories.{receives, receiving}
 use Rattle.distributor_channels.specs.Calls.{seen, facts}

@@ -1,6 +1,5 @@
-use Rattle.std.proofs.Common.{◌≡◌, ◌+◌, ◌-◌, sym, refl, ap, ◌∙◌, arith, rules}
-use Rattle.std.proofs.lemmas.Bool.{both_ways, not-true, not-false}
-use Rattle.distributor_channels.specs.Meaning.{bit}
+use Rattle.std.proofs.Common.{sym, refl, ap, ◌∙◌, rules}
+use Rattle.std.proofs.lemmas.Bool.{both_ways}
 use Rattle.distributor_channels.specs.Steps.{send_step}
 use Rattle.distributor_channels.specs.Histories.{sends, sending}
 use Rattle.distributor_channels.specs.Calls.{seen, facts}

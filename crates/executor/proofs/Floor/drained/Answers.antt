@@ -1,4 +1,4 @@
-use Rattle.std.proofs.Common.{◌≡◌, vec_items, sym, refl, ◌∙◌}
+use Rattle.std.proofs.Common.{vec_items, sym, refl, ◌∙◌}
 use Rattle.std.proofs.lemmas.Bool.{both_ways}
 use Rattle.distributor_channels.specs.Calls.{seen}
 use Rattle.executor.proofs.Booking.{sound_given, sound_ungiven, sound_ended, book_full}

@@ -1,4 +1,4 @@
-use Rattle.std.proofs.Common.{◌≡◌, List, [], sym, refl, ◌∙◌}
+use Rattle.std.proofs.Common.{[]}
 use Rattle.distributor_channels.specs.Calls.{Others}
 use Rattle.executor.proofs.Booking.{sound_new, zeros}
 use Rattle.executor.proofs.Floor.open.Goals as goal

@@ -1,7 +1,6 @@
-use Rattle.std.proofs.Common.{◌≡◌, ◌+◌, ◌<◌, length, get_or, vec_items, sym, refl, ap, ◌∙◌, arith}
+use Rattle.std.proofs.Common.{◌+◌, ◌<◌, length, get_or, vec_items, ap, ◌∙◌, arith}
 use Rattle.std.proofs.lemmas.List.{get_or_default}
 use Rattle.distributor_channels.specs.Calls.{seen}
-use Rattle.executor.specs.declared.Notice.{Notice}
 use Rattle.executor.specs.Books.{advance, Next}
 use Rattle.executor.proofs.Booking.{sound_done, sound_sent}
 use Rattle.executor.proofs.Floor.send_next.Goals as goal

@@ -1,5 +1,4 @@
-use Rattle.std.proofs.Common.{◌≡◌, ◌≤◌, length, refl, ap, ◌∙◌, arith}
-use Rattle.executor.specs.Books.{Emptied}
+use Rattle.std.proofs.Common.{◌≡◌, arith}
 use Rattle.executor.proofs.Booking.{emptied_none, emptied_more, delivered}
 use Rattle.executor.proofs.Floor.settle.Goals as goal
 

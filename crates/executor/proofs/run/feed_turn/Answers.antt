@@ -1,5 +1,5 @@
 use Rattle.std.proofs.lemmas.Result.{IfOk-weaker}
-use Rattle.executor.specs.Books.{Onward, sent_by}
+use Rattle.executor.specs.Books.{Onward}
 use Rattle.executor.proofs.Booking.{onward_more}
 use Rattle.executor.proofs.run.feed_turn.Goals as goal
 

@@ -1,5 +1,5 @@
 -- The first words of the place are the value's, and those read back as the value.
-use Rattle.std.proofs.Common.{◌≡◌, take, sym, ap, ◌∙◌}
+use Rattle.std.proofs.Common.{take, ap, ◌∙◌}
 use Rattle.std.proofs.lemmas.List.{take_at}
 use Rattle.resources.proofs.payload.round_trip.Goals as goal
 

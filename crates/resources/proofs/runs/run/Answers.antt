@@ -1,5 +1,5 @@
 -- One call more, and at the end.
-use Rattle.std.proofs.Common.{◌≡◌, ℕ, ◌<◌, min, length, drop, refl, ◌∙◌, subst, arith}
+use Rattle.std.proofs.Common.{◌≡◌, ℕ, ◌<◌, min, length, drop, refl, subst, arith}
 use Rattle.resources.specs.History.{none}
 use Rattle.resources.proofs.Histories.{Running, running_more, Ranging, ranging_more, rest_more}
 use Rattle.resources.proofs.runs.run.Goals as goal

@@ -1,4 +1,4 @@
-use Rattle.std.proofs.Common.{◌≡◌, length, drop}
+use Rattle.std.proofs.Common.{◌≡◌, drop}
 use Rattle.resources.proofs.Histories.{Running, Ranging}
 use Rattle.resources.proofs.runs.run.Given as goal
 

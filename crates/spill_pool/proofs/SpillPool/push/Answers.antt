@@ -1,6 +1,6 @@
-use Rattle.std.proofs.Common.{◌≡◌, true, false, sym, refl, ap, ◌∙◌, arith, rules}
-use Rattle.std.proofs.lemmas.Bool.{both_ways, eq-eqb, ne_eqb}
-use Rattle.bank.specs.Banks.{view, size, freed}
+use Rattle.std.proofs.Common.{true, sym, refl, ◌∙◌}
+use Rattle.std.proofs.lemmas.Bool.{both_ways, eq-eqb}
+use Rattle.bank.specs.Banks.{view}
 use Rattle.spill_pool.specs.Meaning.{Kind, Lawful, kind_by}
 use Rattle.spill_pool.proofs.Doing.{pushes_unfit, pushes_shut, pushes_skip, pushes_full, pushes_to_open, pushes_to_new, push-history, front_words}
 use Rattle.spill_pool.proofs.SpillPool.push.Given as given

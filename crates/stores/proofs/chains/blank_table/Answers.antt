@@ -1,5 +1,5 @@
 -- One number on, and then the free nodes.
-use Rattle.std.proofs.Common.{◌≡◌, ℕ, refl, ap, subst, arith}
+use Rattle.std.proofs.Common.{◌≡◌, ℕ, refl, subst, arith}
 use Rattle.stores.proofs.Openings.{Numbered, numbered-none, numbered_more, blank_made}
 use Rattle.stores.proofs.chains.blank_table.Goals as goal
 

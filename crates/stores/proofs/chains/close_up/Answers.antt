@@ -1,5 +1,5 @@
 -- One entry on, and at the end.
-use Rattle.std.proofs.Common.{ℕ, ◌<◌, ◌≤◌, refl, ◌∙◌, arith, length-set}
+use Rattle.std.proofs.Common.{refl, ◌∙◌, arith, length-set}
 use Rattle.stores.proofs.Entries.{close_more_below, close_more_above, close_all}
 use Rattle.stores.proofs.chains.close_up.Goals as goal
 

@@ -1,6 +1,6 @@
 -- What one tenant gains the common sum gains.
 use Rattle.std.proofs.Common.{arith}
-use Rattle.resources.proofs.Tenancies.{at_most, refused_grow, sum-grown, moved-grown}
+use Rattle.resources.proofs.Tenancies.{at_most, refused_grow, sum-grown}
 use Rattle.resources.proofs.tenants.Tenants.grow.Goals as goal
 
 pub returns-then-s-self : goal.returns-then-s-self

@@ -1,5 +1,5 @@
 -- Past the table the default is the value.
-use Rattle.std.proofs.Common.{sym, ◌∙◌, arith}
+use Rattle.std.proofs.Common.{sym, arith}
 use Rattle.std.proofs.lemmas.List.{get_or_past}
 use Rattle.resources.proofs.tenants.Tenants.held_by.Goals as goal
 

@@ -1,5 +1,5 @@
 -- A batch of another length, a file that is not open, no free block, or one block more.
-use Rattle.std.proofs.Common.{◌≡◌, ℕ, ◌<◌, ◌≤◌, true, false, length, vec_items, sym, refl, ap, ◌∙◌, arith, length-set}
+use Rattle.std.proofs.Common.{◌<◌, length, vec_items, sym, refl, ap, ◌∙◌, arith, length-set}
 use Rattle.stores.specs.Stores.{block_val, block_view}
 use Rattle.stores.proofs.Orders.{order_of}
 use Rattle.stores.proofs.Filing.{live_at_lem, not_live}

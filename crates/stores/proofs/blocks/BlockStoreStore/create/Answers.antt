@@ -2,7 +2,6 @@
 use Rattle.std.proofs.Common.{length, vec_items, ap}
 use Rattle.stores.specs.Stores.{block_val, block_view}
 use Rattle.stores.proofs.Orders.{order_of}
-use Rattle.stores.proofs.Blocking.{same_keeps}
 use Rattle.stores.proofs.Replies.{create_replies}
 use Rattle.stores.proofs.blocks.BlockStoreStore.create.Goals as goal
 

@@ -1,5 +1,5 @@
 -- A file that is not open, or one that is finished now.
-use Rattle.std.proofs.Common.{◌≡◌, ◌<◌, length, vec_items, sym, refl, ap, ◌∙◌, arith}
+use Rattle.std.proofs.Common.{◌<◌, length, vec_items, refl, ap, arith}
 use Rattle.stores.specs.Stores.{block_val, block_view}
 use Rattle.stores.proofs.Orders.{order_of}
 use Rattle.stores.proofs.Filing.{live_at_lem, not_live, finish_files_is}

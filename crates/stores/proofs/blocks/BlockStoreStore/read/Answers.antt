@@ -1,5 +1,5 @@
 -- No such batch, or its words.
-use Rattle.std.proofs.Common.{◌≡◌, ℕ, ◌*◌, List, ◌++◌, drop, vec_items, sym, refl, ap, ◌∙◌, arith}
+use Rattle.std.proofs.Common.{ℕ, List, ◌++◌, drop, vec_items, refl, ap, ◌∙◌}
 use Rattle.stores.specs.Stores.{block_val, block_files}
 use Rattle.stores.proofs.Orders.{order_of}
 use Rattle.stores.proofs.Filing.{located_some, located_none}

@@ -1,5 +1,5 @@
 -- The file goes; or there was none.
-use Rattle.std.proofs.Common.{◌≡◌, length, vec_items, sym, refl, ap, ◌∙◌, arith}
+use Rattle.std.proofs.Common.{length, vec_items, refl, ap, ◌∙◌, arith}
 use Rattle.stores.specs.Stores.{block_val}
 use Rattle.stores.proofs.Orders.{order_of}
 use Rattle.stores.proofs.Filing.{remove_files_is, remove-none}

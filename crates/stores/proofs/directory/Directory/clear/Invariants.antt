@@ -1,4 +1,4 @@
-use Rattle.std.proofs.Common.{◌≡◌, ◌<◌, ◌≤◌, vec_items}
+use Rattle.std.proofs.Common.{◌≡◌, vec_items}
 use Rattle.stores.specs.Chains.{entry, Cleared}
 use Rattle.stores.proofs.directory.Directory.clear.Given as goal
 

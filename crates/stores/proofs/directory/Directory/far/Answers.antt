@@ -1,7 +1,5 @@
 -- The jumps stay in the chain, and do not rise.
-use Rattle.std.proofs.Common.{◌≡◌, ℕ, ◌<◌, ◌≤◌, length, vec_items, sym, ap, ◌∙◌, subst, arith}
-use Rattle.stores.specs.declared.node.Node.{Node}
-use Rattle.stores.specs.Chains.{node}
+use Rattle.std.proofs.Common.{vec_items}
 use Rattle.stores.proofs.Fars.{hop_in, leap_in, near_sub, hop_sub, far_then, far_else}
 use Rattle.stores.proofs.directory.Directory.far.Goals as goal
 

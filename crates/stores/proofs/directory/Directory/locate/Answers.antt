@@ -1,5 +1,5 @@
 -- No entry, too few batches, or the node.
-use Rattle.std.proofs.Common.{◌≡◌, ℕ, ◌<◌, ◌≤◌, length, sym, ap, ◌∙◌, subst, arith}
+use Rattle.std.proofs.Common.{◌≡◌, ℕ, ◌<◌, ◌≤◌, length, sym, ◌∙◌, subst, arith}
 use Rattle.stores.specs.Chains.{entry}
 use Rattle.stores.proofs.directory.Directory.locate.Goals as goal
 

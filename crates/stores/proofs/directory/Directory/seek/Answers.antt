@@ -1,5 +1,5 @@
 -- The first entry with the number is the one; where there is none, none before the end has it.
-use Rattle.std.proofs.Common.{◌≡◌, ℕ, ◌<◌, sym, ap, ◌∙◌, subst, ⊎_elim, arith}
+use Rattle.std.proofs.Common.{◌≡◌, ℕ, sym, ap, ◌∙◌, ⊎_elim, arith}
 use Rattle.std.proofs.lemmas.Bool.{cases_eq}
 use Rattle.stores.specs.Chains.{entry}
 use Rattle.stores.proofs.directory.Directory.seek.Goals as goal

@@ -1,4 +1,4 @@
-use Rattle.std.proofs.Common.{◌≡◌, ℕ, ◌<◌, ◌≤◌}
+use Rattle.std.proofs.Common.{◌≡◌, ℕ, ◌<◌}
 use Rattle.stores.specs.Chains.{entry}
 use Rattle.stores.proofs.directory.Directory.seek.Given as goal
 

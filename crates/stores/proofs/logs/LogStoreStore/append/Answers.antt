@@ -1,6 +1,6 @@
 -- A batch of another length, a file that is not open, too little room, or one record more.
-use Rattle.std.proofs.Common.{◌≡◌, ℕ, ◌+◌, ◌<◌, ◌≤◌, List, ◌++◌, length, drop, vec_items, sym, refl, ap, ◌∙◌, arith}
-use Rattle.stores.specs.Stores.{log_val, log_view, log_files, log_load, log_words}
+use Rattle.std.proofs.Common.{◌+◌, ◌<◌, ◌≤◌, length, vec_items, sym, refl, ◌∙◌, arith}
+use Rattle.stores.specs.Stores.{log_val, log_view, log_words}
 use Rattle.stores.proofs.Orders.{order_of}
 use Rattle.stores.proofs.Filing.{live_at_lem, not_live}
 use Rattle.stores.proofs.Logging.{room_none, room_some, log_append, append-keeps, node_free}

@@ -1,6 +1,6 @@
 -- A file that is not open, or one that is finished now.
-use Rattle.std.proofs.Common.{◌≡◌, ℕ, ◌+◌, ◌<◌, ◌≤◌, List, ◌++◌, length, drop, vec_items, sym, refl, ap, ◌∙◌, arith}
-use Rattle.stores.specs.Stores.{log_val, log_view, log_files, log_load, log_words}
+use Rattle.std.proofs.Common.{◌<◌, List, vec_items, refl, ap, ◌∙◌, arith}
+use Rattle.stores.specs.Stores.{log_val, log_view, log_words}
 use Rattle.stores.proofs.Orders.{order_of}
 use Rattle.stores.specs.declared.node.Entry.{Entry}
 use Rattle.stores.specs.Chains.{entry}

@@ -1,6 +1,6 @@
 -- No such batch, or its words.
-use Rattle.std.proofs.Common.{◌≡◌, ℕ, ◌+◌, ◌<◌, ◌≤◌, List, ◌++◌, length, drop, vec_items, sym, refl, ap, ◌∙◌, arith}
-use Rattle.stores.specs.Stores.{log_val, log_view, log_files, log_load, log_words}
+use Rattle.std.proofs.Common.{ℕ, List, ◌++◌, drop, refl, ap, ◌∙◌}
+use Rattle.stores.specs.Stores.{log_val, log_files, log_words}
 use Rattle.stores.proofs.Orders.{order_of}
 use Rattle.stores.proofs.Filing.{located_some, located_none}
 use Rattle.stores.proofs.Logging.{record_in, record_short, record_value}

@@ -1,6 +1,6 @@
 -- There was no such file; or it goes, and the run restarts if it was the last.
-use Rattle.std.proofs.Common.{◌≡◌, ℕ, ◌+◌, ◌<◌, ◌≤◌, List, ◌++◌, length, drop, vec_items, sym, refl, ap, ◌∙◌, arith}
-use Rattle.stores.specs.Stores.{log_val, log_view, log_files, log_load, log_words}
+use Rattle.std.proofs.Common.{◌<◌, vec_items, sym, refl, ◌∙◌, arith}
+use Rattle.stores.specs.Stores.{log_val, log_load, log_words}
 use Rattle.stores.proofs.Orders.{order_of}
 use Rattle.std.proofs.lemmas.Bool.{cond-true, cond-false}
 use Rattle.stores.proofs.Filing.{remove_files_is, remove-none, none_there}

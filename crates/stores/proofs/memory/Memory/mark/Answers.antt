@@ -1,5 +1,5 @@
 -- Past the end nothing is written.
-use Rattle.std.proofs.Common.{◌≡◌, vec_items, sym, ◌∙◌, arith}
+use Rattle.std.proofs.Common.{vec_items, sym, arith}
 use Rattle.std.proofs.lemmas.List.{set_past}
 use Rattle.stores.proofs.memory.Memory.mark.Goals as goal
 
