@@ -1,6 +1,6 @@
 -- The ways out of a poll. Assumes nothing.
 use Rattle.std.proofs.Common.{◌≡◌, ℕ, ◌^◌, ◌<◌, ◌≤◌, true, cond, not, eqb, ltb, List, [], ◌∷◌, length, get_or, take, drop, Some, None, Ok, Err, Option, Result, sym, refl, ap, ◌∙◌, subst, arith}
-use Rattle.std.specs.List.{AllByRecursion as All}
+use Rattle.std.specs.List.{AllByRecursion}
 use Rattle.std.proofs.ByRecursion.{All-get_or}
 use Rattle.std.proofs.lemmas.List.{take_at}
 use Rattle.std.proofs.lemmas.Option.{slice_get-get_or}
@@ -49,7 +49,7 @@ shows_ahead c n rs s =
     (λ _. shows_same c n rs s)
 
 -- a batch of w words at the front of a place
-laid_front : (w : ℕ) (o : Option File) (i : ℕ) (place : List ℕ) → i < length (batches_of o) → All (λ ws. length ws ≡ w) (batches_of o) → take w (laid (batch_at o i) place) ≡ words_or (batch_at o i)
+laid_front : (w : ℕ) (o : Option File) (i : ℕ) (place : List ℕ) → i < length (batches_of o) → AllByRecursion (λ ws. length ws ≡ w) (batches_of o) → take w (laid (batch_at o i) place) ≡ words_or (batch_at o i)
 laid_front w None i place l a = absurd (omega arith)
 laid_front w (Some f) i place l a =
     let ws = get_or f.batches i [] in
@@ -114,7 +114,7 @@ module _ {P : Type 0} (k : Kind P) (law : Lawful k) (p : SpillPool P) (d : Mem F
         asked c = record { create = Err Device; append = Err Device; finish = Err Device; read = c }
 
         same_index : (o : Others) (m : Pool) → Represents k.width p d fs o m → idx ≡ n.read
-        same_index o m rep = let r = the_oldest o m rep in let g = (subst (All (λ x. Stored k.width p.maximum (fs x.number) x)) r.1 rep.sound.stored).0.most in small (omega arith)
+        same_index o m rep = let r = the_oldest o m rep in let g = (subst (AllByRecursion (λ x. Stored k.width p.maximum (fs x.number) x)) r.1 rep.sound.stored).0.most in small (omega arith)
 
         reads : (o : Others) (m : Pool) (rep : Represents k.width p d fs o m) (c : Result ℕ Cause) → step (setup_of p) (facts_of p d) m fs (asked c) ≡ read_by (setup_of p) k.reading m fs n (the_oldest o m rep).0 c
         unfolding asked
@@ -136,7 +136,7 @@ module _ {P : Type 0} (k : Kind P) (law : Lawful k) (p : SpillPool P) (d : Mem F
             Advances y d p.files gs d' p'.files fs' → p'.current ≡ p.current → p'.sinks ≡ p.sinks → p'.maximum ≡ p.maximum → Polls k p d fs p' d' fs' (Ok (Given x))
         polls_batch p' d' fs' gs l x place old y lw eg ep ex ey adv ec es em o m rep =
             let r = the_oldest o m rep in let rs = r.0 in let i = same_index o m rep in
-            let st = (subst (All (λ u. Stored k.width p.maximum (fs u.number) u)) r.1 rep.sound.stored).0 in
+            let st = (subst (AllByRecursion (λ u. Stored k.width p.maximum (fs u.number) u)) r.1 rep.sound.stored).0 in
             let lt : n.read < length (batches_of (fs n.number)) = let a = st.written in omega arith in
             let value : x ≡ k.reading (words_or (batch_at (fs n.number) n.read)) =
             ex ∙ ap (λ (u : List ℕ). k.reading (take k.width u)) (ep ∙ ap (λ (j : ℕ). laid (batch_at (fs n.number) j) old) i)

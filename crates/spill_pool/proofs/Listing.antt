@@ -1,6 +1,6 @@
 -- Lists by their newest element, and which numbers are among the files of a list. Assumes nothing.
 use Rattle.std.proofs.Common.{◌≡◌, ℕ, true, false, cond, eqb, List, [], ◌∷◌, Some, None, Option, sym, refl, ap, ◌∙◌, subst, ⊎_elim, arith}
-use Rattle.std.specs.List.{AllByRecursion as All}
+use Rattle.std.specs.List.{AllByRecursion}
 use Rattle.std.proofs.ByRecursion.{All-push}
 use Rattle.std.proofs.lemmas.Bool.{cases_Bool, cond-true, cond-false, eq-eqb, ne_eqb, eqb-true, eqb-false, or_parts, or_from, or_left, or_right, or_cases, both_ways}
 use Rattle.bank.specs.Lists.{newest, older, rest, push}
@@ -30,24 +30,24 @@ module _ {T : Type 0} where
   newest-none (y ∷ []) e = absurd (let z : ◌≡◌ {A = ℕ} 0 1 = cc in omega arith)
   newest-none (y ∷ (z ∷ zs)) e = absurd (let q : z ∷ zs ≡ [] = newest-none (z ∷ zs) e in let o : ◌≡◌ {A = ℕ} 0 1 = cc in omega arith)
 
-  pub all_push_parts : (P : T → Type 0) (xs : List T) (x : T) → All P (push xs x) → All P xs × P x
+  pub all_push_parts : (P : T → Type 0) (xs : List T) (x : T) → AllByRecursion P (push xs x) → AllByRecursion P xs × P x
   all_push_parts P [] x (p, q) = (tt, p)
   all_push_parts P (y ∷ ys) x (p, q) = let r = all_push_parts P ys x q in ((p, r.0), r.1)
 
-  pub all_rest : (P : T → Type 0) (xs : List T) → All P xs → All P (rest xs)
+  pub all_rest : (P : T → Type 0) (xs : List T) → AllByRecursion P xs → AllByRecursion P (rest xs)
   all_rest P [] a = tt
   all_rest P (y ∷ ys) (p, q) = q
 
   -- of all but the first of a longer list
-  pub rest-push : (P : T → Type 0) (xs : List T) (x : T) → All P (rest xs) → (xs ≡ [] → ⊥) → P x → All P (rest (push xs x))
+  pub rest-push : (P : T → Type 0) (xs : List T) (x : T) → AllByRecursion P (rest xs) → (xs ≡ [] → ⊥) → P x → AllByRecursion P (rest (push xs x))
   rest-push P [] x a n p = absurd (n refl)
   rest-push P (y ∷ ys) x a n p = All-push P ys x a p
 
-  pub rest-push_parts : (P : T → Type 0) (xs : List T) (x : T) → All P (rest (push xs x)) → All P (rest xs)
+  pub rest-push_parts : (P : T → Type 0) (xs : List T) (x : T) → AllByRecursion P (rest (push xs x)) → AllByRecursion P (rest xs)
   rest-push_parts P [] x a = tt
   rest-push_parts P (y ∷ ys) x a = (all_push_parts P ys x a).0
 
-  pub rest-push_last : (P : T → Type 0) (xs : List T) (x : T) → All P (rest (push xs x)) → (xs ≡ [] → ⊥) → P x
+  pub rest-push_last : (P : T → Type 0) (xs : List T) (x : T) → AllByRecursion P (rest (push xs x)) → (xs ≡ [] → ⊥) → P x
   rest-push_last P [] x a n = absurd (n refl)
   rest-push_last P (y ∷ ys) x a n = (all_push_parts P ys x a).1
 
@@ -65,14 +65,14 @@ open_some rs r e = by (newest rs) refl
         (cases_Bool x.finished)
 
 -- without an open file all are finished
-pub open_none : (rs : List FileRecord) → open_file rs ≡ None → All (λ r. r.finished ≡ true) (older rs) → All (λ r. r.finished ≡ true) rs
+pub open_none : (rs : List FileRecord) → open_file rs ≡ None → AllByRecursion (λ r. r.finished ≡ true) (older rs) → AllByRecursion (λ r. r.finished ≡ true) rs
 open_none rs e a = by (newest rs) refl
   where
-    by : (o : Option FileRecord) → newest rs ≡ o → All (λ r. r.finished ≡ true) rs
-    by None n = subst (All (λ r. r.finished ≡ true)) (sym (newest-none rs n)) tt
+    by : (o : Option FileRecord) → newest rs ≡ o → AllByRecursion (λ r. r.finished ≡ true) rs
+    by None n = subst (AllByRecursion (λ r. r.finished ≡ true)) (sym (newest-none rs n)) tt
     by (Some x) n =
         ⊎_elim
-        (λ (t : x.finished ≡ true). subst (All (λ r. r.finished ≡ true)) (sym (newest_split rs x n)) (All-push (λ r. r.finished ≡ true) (older rs) x a t))
+        (λ (t : x.finished ≡ true). subst (AllByRecursion (λ r. r.finished ≡ true)) (sym (newest_split rs x n)) (All-push (λ r. r.finished ≡ true) (older rs) x a t))
         (λ (t : x.finished ≡ false). absurd (let u : cond x.finished None (Some x) ≡ Some x = cond-false _ _ _ t in let q : cond x.finished None (Some x) ≡ None = sym (ap unfinished n) ∙ e in let z : ◌≡◌ {A = ℕ} 0 1 = cc in omega arith))
         (cases_Bool x.finished)
 
@@ -80,7 +80,7 @@ pub open_push : (rs : List FileRecord) (r : FileRecord) → open_file (push rs r
 open_push rs r = ap unfinished (newest-push rs r)
 
 -- a list of finished files has no open one
-pub open_finished : (rs : List FileRecord) → All (λ r. r.finished ≡ true) rs → open_file rs ≡ None
+pub open_finished : (rs : List FileRecord) → AllByRecursion (λ r. r.finished ≡ true) rs → open_file rs ≡ None
 open_finished [] a = refl
 open_finished (r ∷ []) (p, q) = cond-true r.finished None (Some r) p
 open_finished (r ∷ (s ∷ rs)) (p, q) = open_finished (s ∷ rs) q

@@ -1,6 +1,6 @@
 -- A push: the pool stays sound, what is unread gains the batch if it was kept, and nothing else in the store changes. Assumes nothing.
 use Rattle.std.proofs.Common.{◌≡◌, ℕ, ◌^◌, ◌≤◌, Bool, true, false, not, ◌||◌, eqb, ◌⊎◌, List, [], ◌∷◌, ◌++◌, map, is_some, Some, None, Ok, Err, Option, Result, sym, refl, ap, ◌∙◌, subst, inl, inr, ⊎_elim, arith}
-use Rattle.std.specs.List.{AllByRecursion as All}
+use Rattle.std.specs.List.{AllByRecursion}
 use Rattle.std.proofs.lemmas.List.{append-nil, append_assoc}
 use Rattle.std.proofs.lemmas.Bool.{cases_Bool, cond-true, cond_both, eqb-true, eqb-false, or_cases, or_left, or_right, both_ways}
 use Rattle.refusal.specs.declared.Refusal.{Refusal}
@@ -53,8 +53,8 @@ pub record Pushed {P : Type 0} (k : Kind P) (s : Setup) (x : P) (m : Pool) (fs :
 module _ {P : Type 0} (k : Kind P) (s : Setup) where
   -- The write v to the file r behind `before`, where the store is gs: the file stood there or is new.
   module _ (before : List FileRecord) (r : FileRecord) (n : ℕ) (gs : Files) (v : Written) (added : List P) (w : Wrote k s r gs v added)
-      (stored : AllStored k.width s.maximum gs before) (used : All Used before) (fresh : All (λ y. y.read ≡ 0) (rest before))
-      (done : All (λ y. y.finished ≡ true) before) (apart : Apart before) (new : among r.number before ≡ false)
+      (stored : AllStored k.width s.maximum gs before) (used : AllByRecursion Used before) (fresh : AllByRecursion (λ y. y.read ≡ 0) (rest before))
+      (done : AllByRecursion (λ y. y.finished ≡ true) before) (apart : Apart before) (new : among r.number before ≡ false)
       (first : (before ≡ [] → ⊥) → r.read ≡ 0) (idle : n ≡ 0 → v.file.finished ≡ true) where
     new' : among v.file.number before ≡ false
     new' = ap (λ (j : ℕ). among j before) w.same ∙ new
@@ -124,8 +124,8 @@ pub record Last (w maximum : ℕ) (m : Pool) (fs : Files) (r : FileRecord) : Typ
   pub open' : r.finished ≡ false
   pub stored : AllStored w maximum fs (older m.files)
   pub good : Stored w maximum (fs r.number) r
-  pub used : All Used (older m.files)
-  pub fresh : All (λ y. y.read ≡ 0) (rest (older m.files))
+  pub used : AllByRecursion Used (older m.files)
+  pub fresh : AllByRecursion (λ y. y.read ≡ 0) (rest (older m.files))
   pub first : (older m.files ≡ [] → ⊥) → r.read ≡ 0
   pub apart : Apart (older m.files)
   pub new : among r.number (older m.files) ≡ false
@@ -135,8 +135,8 @@ last_parts w maximum m fs sound r e =
     let o = open_some m.files r e in
     let split : m.files ≡ push (older m.files) r = newest_split m.files r o.0 in
     let st = all_push_parts (λ y. Stored w maximum (fs y.number) y) (older m.files) r (subst (AllStored w maximum fs) split sound.stored) in
-    let us = all_push_parts Used (older m.files) r (subst (All Used) split sound.used) in
-    let fr : All (λ y. y.read ≡ 0) (rest (push (older m.files) r)) = subst (λ (u : List FileRecord). All (λ y. y.read ≡ 0) (rest u)) split sound.fresh in
+    let us = all_push_parts Used (older m.files) r (subst (AllByRecursion Used) split sound.used) in
+    let fr : AllByRecursion (λ y. y.read ≡ 0) (rest (push (older m.files) r)) = subst (λ (u : List FileRecord). AllByRecursion (λ y. y.read ≡ 0) (rest u)) split sound.fresh in
     let ap' = apart_push_parts (older m.files) r (subst Apart split sound.apart) in
     record {
       split = split;

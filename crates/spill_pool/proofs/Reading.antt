@@ -1,7 +1,7 @@
 -- A poll: what it gives was the oldest of what is unread, the pool stays sound, and nothing else in the store changes. Assumes nothing.
 use Rattle.std.proofs.Common.{◌≡◌, ℕ, suc, ◌<◌, ◌≤◌, true, false, not, eqb, ltb, List, [], ◌∷◌, ◌++◌, map, length, get_or, drop, Some, None, Ok, Err, Option, Result, sym, refl, ap, ◌∙◌, subst, ⊎_elim, add-one, arith, length-append, length-drop, drop-cons}
 use lib.ListN.{length-map}
-use Rattle.std.specs.List.{AllByRecursion as All}
+use Rattle.std.specs.List.{AllByRecursion}
 use Rattle.std.proofs.lemmas.Option.{slice_get-get_or}
 use Rattle.std.proofs.lemmas.Bool.{cases_Bool, cases_eq, cond-true, cond-false, cond_both, eq-eqb, ne_eqb, ltb-true, ltb-false, or_from, or_parts, both_ways}
 use Rattle.refusal.specs.declared.Refusal.{Refusal}
@@ -31,12 +31,12 @@ pub record Polled {P : Type 0} (k : Kind P) (s : Setup) (m : Pool) (fs : Files) 
   pub unread : unread k.reading fs m.files ≡ gives o.answer ++ unread k.reading o.store o.next.files
 
 -- of older files of a longer list
-older-rest : (r : FileRecord) (rs : List FileRecord) → All (λ x. x.finished ≡ true) (older (r ∷ rs)) → All (λ x. x.finished ≡ true) (older rs)
+older-rest : (r : FileRecord) (rs : List FileRecord) → AllByRecursion (λ x. x.finished ≡ true) (older (r ∷ rs)) → AllByRecursion (λ x. x.finished ≡ true) (older rs)
 older-rest r [] a = tt
 older-rest r (x ∷ xs) (p, q) = q
 
 -- the same, with another first file
-older_first : (r y : FileRecord) (rs : List FileRecord) → y.finished ≡ r.finished → All (λ x. x.finished ≡ true) (older (r ∷ rs)) → All (λ x. x.finished ≡ true) (older (y ∷ rs))
+older_first : (r y : FileRecord) (rs : List FileRecord) → y.finished ≡ r.finished → AllByRecursion (λ x. x.finished ≡ true) (older (r ∷ rs)) → AllByRecursion (λ x. x.finished ≡ true) (older (y ∷ rs))
 older_first r y [] e a = tt
 older_first r y (x ∷ xs) e (p, q) = (e ∙ p, q)
 
@@ -48,7 +48,7 @@ module _ {P : Type 0} (k : Kind P) (s : Setup) where
     good : Stored k.width s.maximum (fs r.number) y
     good = let g = sound.stored.0 in record { there = g.there; written = g.written; wide = g.wide; read = omega arith; most = g.most; sum = g.sum; live = g.live; short = g.short; light = g.light }
 
-    finished : n ≡ 0 → All (λ x. x.finished ≡ true) (r ∷ rs)
+    finished : n ≡ 0 → AllByRecursion (λ x. x.finished ≡ true) (r ∷ rs)
     finished z = open_none (r ∷ rs) (sound.idle z) sound.order
 
     ahead_sound : Sound k.width s.maximum (swept fs y) (pool (ahead y rs) n)
@@ -162,14 +162,14 @@ module _ {P : Type 0} (k : Kind P) (s : Setup) where
         open' : (u : List FileRecord) → m.files ≡ r ∷ u → r.finished ≡ false
         open' u q =
             ⊎_elim
-            (λ (h : r.finished ≡ true). absurd (let v = (subst (All Used) q sound.used).0.over h in omega arith))
+            (λ (h : r.finished ≡ true). absurd (let v = (subst (AllByRecursion Used) q sound.used).0.over h in omega arith))
             (λ (h : r.finished ≡ false). h)
             (cases_Bool r.finished)
 
         by : (u : List FileRecord) → m.files ≡ r ∷ u → unread k.reading fs (r ∷ u) ≡ []
         by [] q = let g = (subst (AllStored k.width s.maximum fs) q sound.stored).0 in
             ap (λ (v : List P). v ++ []) (left-none k.width s.maximum k.reading (fs r.number) r g (let h = g.read in omega arith))
-        by (x ∷ xs) q = absurd (both_ways r.finished (open' (x ∷ xs) q) (subst (λ (u : List FileRecord). All (λ v. v.finished ≡ true) (older u)) q sound.order).0)
+        by (x ∷ xs) q = absurd (both_ways r.finished (open' (x ∷ xs) q) (subst (λ (u : List FileRecord). AllByRecursion (λ v. v.finished ≡ true) (older u)) q sound.order).0)
 
     rests_of : (rs : List FileRecord) → m.files ≡ rs → rests (poll_of s k.reading m fs a rs).answer ≡ eqb (length (unread k.reading fs rs)) 0
     rests_of [] e = rest-rests

@@ -1,7 +1,7 @@
 -- A file goes behind or before the others, or is spent and removed: the pool stays sound, and nothing unread is lost. Assumes nothing.
 use Rattle.std.proofs.Common.{◌≡◌, ℕ, ◌<◌, true, false, eqb, List, [], ◌∷◌, ◌++◌, map, length, drop, Some, None, Option, sym, refl, ap, ◌∙◌, subst, ⊎_elim, arith}
 use lib.Seq.{drop-append_seam}
-use Rattle.std.specs.List.{AllByRecursion as All}
+use Rattle.std.specs.List.{AllByRecursion}
 use Rattle.std.proofs.ByRecursion.{All-push}
 use Rattle.std.proofs.lemmas.List.{append-nil, append_assoc}
 use Rattle.std.proofs.lemmas.Bool.{cases_Bool, cond-true, cond-false, eq-eqb, eqb-true, eqb-false, and_parts, and_cases, or_left, or_right, both_ways}
@@ -16,7 +16,7 @@ use Rattle.spill_pool.proofs.Listing.{Agree, agree_put, older-push, open_push, o
 module _ (w maximum : ℕ) where
   -- the files of the list stand in the store
   abbrev pub AllStored : Files → List FileRecord → Type 0
-  AllStored fs rs = All (λ r. Stored w maximum (fs r.number) r) rs
+  AllStored fs rs = AllByRecursion (λ r. Stored w maximum (fs r.number) r) rs
 
   pub stored_agree : (fs gs : Files) (rs : List FileRecord) → Agree rs fs gs → AllStored fs rs → AllStored gs rs
   stored_agree fs gs [] a s = tt
@@ -56,8 +56,8 @@ module _ (w maximum : ℕ) where
 
   -- The file r of the store gs goes behind the files `before`.
   module _ (before : List FileRecord) (r : FileRecord) (gs : Files) (n : ℕ)
-      (stored : AllStored gs before) (used : All Used before) (fresh : All (λ x. x.read ≡ 0) (rest before))
-      (done : All (λ x. x.finished ≡ true) before) (apart : Apart before) (new : among r.number before ≡ false)
+      (stored : AllStored gs before) (used : AllByRecursion Used before) (fresh : AllByRecursion (λ x. x.read ≡ 0) (rest before))
+      (done : AllByRecursion (λ x. x.finished ≡ true) before) (apart : Apart before) (new : among r.number before ≡ false)
       (good : Stored w maximum (gs r.number) r) (some : is_spent r ≡ false → 0 < r.written) (first : (before ≡ [] → ⊥) → r.read ≡ 0)
       (idle : n ≡ 0 → r.finished ≡ true) where
     pub listed_sound : Sound w maximum (swept gs r) (pool (listed before r) n)
@@ -81,15 +81,15 @@ module _ (w maximum : ℕ) where
           idle = λ _. open_finished before done;
         }
           where
-            older_all : (xs : List FileRecord) → All (λ x. x.finished ≡ true) xs → All (λ x. x.finished ≡ true) (older xs)
+            older_all : (xs : List FileRecord) → AllByRecursion (λ x. x.finished ≡ true) xs → AllByRecursion (λ x. x.finished ≡ true) (older xs)
             older_all [] a = tt
             older_all (x ∷ []) a = tt
             older_all (x ∷ (y ∷ ys)) (p, q) = (p, older_all (y ∷ ys) q)
 
-        fresh_more : (xs : List FileRecord) → xs ≡ before → All (λ x. x.read ≡ 0) (rest (push xs r))
+        fresh_more : (xs : List FileRecord) → xs ≡ before → AllByRecursion (λ x. x.read ≡ 0) (rest (push xs r))
         fresh_more [] e = tt
         fresh_more (x ∷ xs) e =
-            rest-push (λ y. y.read ≡ 0) (x ∷ xs) r (subst (λ (u : List FileRecord). All (λ y. y.read ≡ 0) (rest u)) (sym e) fresh)
+            rest-push (λ y. y.read ≡ 0) (x ∷ xs) r (subst (λ (u : List FileRecord). AllByRecursion (λ y. y.read ≡ 0) (rest u)) (sym e) fresh)
             (λ q. let z : ◌≡◌ {A = ℕ} 0 1 = cc in omega arith)
             (first (λ q. let z : ◌≡◌ {A = ℕ} 0 1 = cc in omega arith))
 
@@ -98,7 +98,7 @@ module _ (w maximum : ℕ) where
           stored = All-push (λ x. Stored w maximum (gs x.number) x) before r stored good;
           used = All-push Used before r used (record { some = some e; over = unspent (gs r.number) r good e });
           fresh = fresh_more before refl;
-          order = subst (All (λ x. x.finished ≡ true)) (sym (older-push before r)) done;
+          order = subst (AllByRecursion (λ x. x.finished ≡ true)) (sym (older-push before r)) done;
           apart = apart_push before r apart new;
           idle = λ z. open_push before r ∙ cond-true r.finished None (Some r) (idle z);
         }

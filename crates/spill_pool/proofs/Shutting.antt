@@ -1,6 +1,6 @@
 -- The ways out of a sink's close, and of removing all. Assumes nothing.
 use Rattle.std.proofs.Common.{◌≡◌, ℕ, ◌-◌, ◌<◌, ◌≤◌, true, false, cond, not, eqb, List, [], ◌∷◌, Some, None, Ok, Err, Option, Result, sym, refl, ap, ◌∙◌, subst, arith}
-use Rattle.std.specs.List.{AllByRecursion as All}
+use Rattle.std.specs.List.{AllByRecursion}
 use Rattle.std.proofs.lemmas.Bool.{cond-true, cond-false, eq-eqb, ne_eqb}
 use Rattle.refusal.specs.declared.Refusal.{Refusal}
 use Rattle.refusal.specs.declared.Refusal.TheVariants.{Lengths, Closed as Shut}
@@ -96,7 +96,7 @@ module _ {P : Type 0} (k : Kind P) (law : Lawful k) (p : SpillPool P) (d : Mem F
             let q = held o m rep a u e in
             let cs : p'.current ≡ current_of (ended r) = ec ∙ ap (λ (c : OpenFile). record { number = c.number; written = c.written; sum = c.sum; live = false }) cr in
             let rc : record_of p'.current r.read ≡ ended r = ap (λ (c : OpenFile). record_of c r.read) cs in
-            let us = (all_push_parts Used (older m.files) r (subst (All Used) b.split rep.sound.used)).1.some in
+            let us = (all_push_parts Used (older m.files) r (subst (AllByRecursion Used) b.split rep.sound.used)).1.some in
             let z = st o (older m.files) r (subst (λ (w : List FileRecord). Keeps d (p.files ∷ o.queues) (w ∷ o.lists)) b.split rep.files) (λ sp. alone (older m.files) r b.first (ended r) refl us (omega arith) (ap is_spent (sym rc) ∙ sp)) in
             does_by CloseLawful close_step k.width p d fs (Ok t) o m rep p' d' fs' a (subst (CloseLawfulAt fs a) (sym x.1) lw) u e
             (ap Ok (f.answer ∙ ap (λ (n : ℕ). told p.partition n f.reply) nr))

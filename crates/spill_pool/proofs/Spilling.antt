@@ -1,6 +1,6 @@
 -- A push up to the records: what the write and the placing of its record come to. Assumes nothing.
 use Rattle.std.proofs.Common.{◌≡◌, ℕ, ◌^◌, ◌<◌, ◌≤◌, Bool, true, false, not, List, [], ◌∷◌, Some, None, Ok, Err, Option, Result, sym, refl, ap, ◌∙◌, subst, ⊎_elim, arith}
-use Rattle.std.specs.List.{AllByRecursion as All}
+use Rattle.std.specs.List.{AllByRecursion}
 use Rattle.std.proofs.lemmas.Bool.{cases_Bool, cond-true, cond-false, cond_both}
 use Rattle.bank.specs.declared.Queue.{Queue}
 use Rattle.bank.specs.Lists.{older, push}
@@ -33,7 +33,7 @@ record_current y rd e =
     ∙ ap (λ (n : ℕ). record { number = y.number; written = y.written; read = n; sum = y.sum; finished = y.finished }) (sym e)
 
 -- the record of the open file shows what is open behind finished files
-pub shows_listed : (before : List FileRecord) (y : FileRecord) (c : OpenFile) → All (λ x. x.finished ≡ true) before → c ≡ current_of y → Shows c (open_file (listed before y))
+pub shows_listed : (before : List FileRecord) (y : FileRecord) (c : OpenFile) → AllByRecursion (λ x. x.finished ≡ true) before → c ≡ current_of y → Shows c (open_file (listed before y))
 shows_listed before y c done e =
     ⊎_elim
     (λ (s : is_spent y ≡ true).
@@ -81,7 +81,7 @@ module _ (s : Setup) (size : ℕ) (ws : List ℕ) (d : Mem FileRecord) (q : Queu
         let store : gs ≡ y.store = v.store ∙ ap (λ (u : FileRecord). (write s u fs b v.replies).store) rx in
         let kp = write_keeps s x fs b v.replies in
         let ry : record_of c' x.read ≡ y.file = ap (λ (u : OpenFile). record_of u x.read) file ∙ record_current y.file x.read kp.0 in
-        let us = (all_push_parts Used (older m.files) x (subst (All Used) l.split sound.used)).1.some in
+        let us = (all_push_parts Used (older m.files) x (subst (AllByRecursion Used) l.split sound.used)).1.some in
         let z = t o (older m.files) x (subst (λ (u : List FileRecord). Keeps d (q ∷ o.queues) (u ∷ o.lists)) l.split k) (λ sp. alone (older m.files) x l.first y.file kp.0 us kp.1 (ap is_spent (sym ry) ∙ sp)) in
         record {
           replies = v.replies;

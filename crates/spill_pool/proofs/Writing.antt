@@ -1,7 +1,7 @@
 -- Writing to a file: it stands in the store as its record says, and what is left to read gains the batch if it was kept. Assumes nothing.
 use Rattle.std.proofs.Common.{◌≡◌, ℕ, ◌+◌, ◌^◌, ◌<◌, ◌≤◌, true, false, eqb, ltb, leb, List, [], ◌∷◌, ◌++◌, map, length, drop, is_some, Some, None, Ok, Err, Option, Result, sym, refl, ap, ◌∙◌, subst, ⊎_elim, arith, length-append}
 use lib.Seq.{drop-append-le}
-use Rattle.std.specs.List.{AllByRecursion as All}
+use Rattle.std.specs.List.{AllByRecursion}
 use Rattle.std.proofs.ByRecursion.{All-push}
 use Rattle.std.proofs.lemmas.List.{append-nil, map-append}
 use Rattle.std.proofs.lemmas.Bool.{cond_both, eqb-false, ltb-false, leb-false, or_parts, both_ways, and_cases}
@@ -41,7 +41,7 @@ module _ (w maximum : ℕ) where
   stored_ended o p r s b i = record {
     there = i;
     written = ap length b ∙ s.written;
-    wide = subst (All (λ ws. length ws ≡ w)) (sym b) s.wide;
+    wide = subst (AllByRecursion (λ ws. length ws ≡ w)) (sym b) s.wide;
     read = s.read;
     most = s.most;
     sum = s.sum;
@@ -90,7 +90,7 @@ module _ {P : Type 0} (k : Kind P) (law : Lawful k) (s : Setup) (most : s.maximu
       record {
         there = there;
         written = ap length batches ∙ length-append (batches_of (fs n)) (ws ∷ []) ∙ ap (λ (u : ℕ). u + 1) good.written ∙ sym ew;
-        wide = subst (All (λ v. length v ≡ k.width)) (sym batches) (All-push (λ v. length v ≡ k.width) (batches_of (fs n)) ws good.wide (law.long x));
+        wide = subst (AllByRecursion (λ v. length v ≡ k.width)) (sym batches) (All-push (λ v. length v ≡ k.width) (batches_of (fs n)) ws good.wide (law.long x));
         read = omega arith;
         most = omega arith;
         sum = omega arith;

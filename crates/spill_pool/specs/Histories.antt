@@ -2,7 +2,7 @@
 --
 -- A history is the list of the calls so far, the newest first, each with its answer. The words below speak of the history alone.
 use Rattle.std.specs.Prelude.{◌≡◌, ℕ, ◌<◌, Bool, true, false, List, [], ◌∷◌, ◌++◌, length, Ok, Err, Option, Result, ◌==◌}
-use Rattle.std.specs.List.{AllByRecursion as All}
+use Rattle.std.specs.List.{AllByRecursion}
 use Rattle.refusal.specs.declared.Refusal.{Refusal}
 use Rattle.resources.specs.Files.{Files}
 use Rattle.spill_pool.specs.declared.fault.Fault.{Fault}
@@ -93,4 +93,4 @@ pub record Laws {P : Type 0} (k : Kind P) (s : Setup) (h : List (Event P)) (m : 
   -- what is not in the pool's list is as others left it: no file of the pool stays in the store outside its list
   pub listing : (n : ℕ) → among n m.files ≡ false → fs n ≡ gs n
   -- a file that is finished has something unread: no file stays once it is finished and read
-  pub leaving : All (λ r. r.finished ≡ true → r.read < r.written) m.files
+  pub leaving : AllByRecursion (λ r. r.finished ≡ true → r.read < r.written) m.files

@@ -1,6 +1,6 @@
 -- What a pool means: its files, oldest first, beside the files of the store. Assumes nothing.
 use Rattle.std.specs.Prelude.{◌≡◌, ℕ, ◌+◌, ◌^◌, ◌<◌, ◌≤◌, Bool, true, false, cond, ◌&&◌, ◌||◌, List, [], ◌∷◌, ◌++◌, map, length, drop, is_some, Some, None, Ok, Err, Option, Result, ◌==◌, nat_le, nat_lt}
-use Rattle.std.specs.List.{AllByRecursion as All}
+use Rattle.std.specs.List.{AllByRecursion}
 use Rattle.bank.specs.Lists.{newest, older, rest}
 use Rattle.resources.specs.declared.cause.Cause.{Cause}
 use Rattle.resources.specs.Files.{File, Files, live_at, CreateLawful, create_after, AppendLawful, append_after, FinishLawful, ReadLawful}
@@ -111,7 +111,7 @@ Apart (r ∷ rs) = (among r.number rs ≡ false) × Apart rs
 pub record Stored (w maximum : ℕ) (f : Option File) (r : FileRecord) : Type 0 where
   pub there : is_some f ≡ true
   pub written : length (batches_of f) ≡ r.written
-  pub wide : All (λ ws. length ws ≡ w) (batches_of f)
+  pub wide : AllByRecursion (λ ws. length ws ≡ w) (batches_of f)
   pub read : r.read ≤ r.written
   pub most : r.written ≤ 2 ^ 32
   pub sum : r.sum < 2 ^ 41
@@ -127,10 +127,10 @@ pub record Used (r : FileRecord) : Type 0 where
 -- Every file of the pool is stored and used; only the oldest was read from, and only the newest may be open; no two have one number;
 -- and without sinks none is open.
 pub record Sound (w maximum : ℕ) (fs : Files) (m : Pool) : Type 0 where
-  pub stored : All (λ r. Stored w maximum (fs r.number) r) m.files
-  pub used : All Used m.files
-  pub fresh : All (λ r. r.read ≡ 0) (rest m.files)
-  pub order : All (λ r. r.finished ≡ true) (older m.files)
+  pub stored : AllByRecursion (λ r. Stored w maximum (fs r.number) r) m.files
+  pub used : AllByRecursion Used m.files
+  pub fresh : AllByRecursion (λ r. r.read ≡ 0) (rest m.files)
+  pub order : AllByRecursion (λ r. r.finished ≡ true) (older m.files)
   pub apart : Apart m.files
   pub idle : m.sinks ≡ 0 → open_file m.files ≡ None
 
