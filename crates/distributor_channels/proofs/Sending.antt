@@ -1,8 +1,8 @@
 -- A send poll, way by way. Assumes nothing.
-use Rattle.std.proofs.Common.{◌≡◌, ℕ, suc, ◌+◌, ◌-◌, ◌<◌, ◌≤◌, true, false, cond, ◌&&◌, eqb, ltb, leb, List, [], ◌++◌, map, length, get_or, take, set, is_some, Some, None, Ok, Err, Option, sym, refl, ap, ◌∙◌, subst, ⊎_elim, arith}
+use Rattle.std.proofs.Common.{◌≡◌, ℕ, suc, ◌+◌, ◌-◌, ◌<◌, ◌≤◌, true, false, ◌&&◌, eqb, ltb, leb, List, [], ◌++◌, map, length, set, is_some, Some, None, Ok, Err, Option, sym, refl, ap, ◌∙◌, ⊎_elim, arith}
 use Rattle.std.proofs.lemmas.Bool.{both_ways, cases_lt, lt-ltb, le-ltb, leb-true, eq-eqb, ne_eqb, and_parts}
 use Rattle.refusal.specs.declared.Refusal.{Refusal}
-use Rattle.refusal.specs.declared.Refusal.TheVariants.{Lengths, Range, Cells, Places, Closed as Shut}
+use Rattle.refusal.specs.declared.Refusal.TheVariants.{Cells, Places, Closed as Shut}
 use Rattle.bank.specs.declared.Queue.{Queue}
 use Rattle.bank.specs.Lists.{list, push}
 use Rattle.bank.specs.Banks.{Mem, Is, size, freed, Keeps, Adds}
@@ -14,7 +14,7 @@ use Rattle.distributor_channels.specs.declared.SendPoll.TheVariants.{Sent, Wait,
 use Rattle.distributor_channels.specs.Meaning.{Meaning, bit, entry, none, is_open, open_count, chan, with_queue, with_receiving}
 use Rattle.distributor_channels.specs.Steps.{SendAnswer, find, back, send_step}
 use Rattle.distributor_channels.specs.Naming.{Names}
-use Rattle.distributor_channels.specs.Calls.{records, shut_record, line_of, Mems, Others, mark_of, mark, Stands, Represents, facts, Does}
+use Rattle.distributor_channels.specs.Calls.{records, line_of, Mems, Others, mark_of, mark, Stands, Represents, facts, Does}
 use Rattle.distributor_channels.proofs.Ways as way
 use Rattle.distributor_channels.proofs.Standing.{no_queue, none_is, none-push, same_length, same_senders, same_receiver, is_line, is_wait, line_is, wait_is, line_len, stands_set, waits_kept, Found, unwritten, Lost, unfit, beyond}
 

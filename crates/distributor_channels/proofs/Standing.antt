@@ -1,8 +1,8 @@
 -- What one changed record does to what is represented. Assumes nothing.
-use Rattle.std.proofs.Common.{◌≡◌, ℕ, zero, suc, ◌+◌, ◌<◌, ◌≤◌, Bool, true, false, cond, ◌&&◌, eqb, ltb, List, [], ◌∷◌, ◌++◌, map, length, get_or, take, set, is_some, Ok, Err, Result, sym, refl, ap, ◌∙◌, arith, length-append, length-set}
+use Rattle.std.proofs.Common.{◌≡◌, ℕ, zero, suc, ◌+◌, ◌<◌, ◌≤◌, Bool, true, false, ◌&&◌, eqb, List, [], ◌∷◌, ◌++◌, map, length, get_or, set, is_some, sym, refl, ap, ◌∙◌, arith, length-append, length-set}
 use lib.ListN.{length-map}
 use Rattle.std.proofs.lemmas.List.{set-get_or, get_or_default, map-set, get_or-map, get_or_append_left, set-append_left}
-use Rattle.std.proofs.lemmas.Bool.{ltb-true, ne_eqb}
+use Rattle.std.proofs.lemmas.Bool.{ne_eqb}
 use Rattle.refusal.specs.declared.Refusal.{Refusal}
 use Rattle.refusal.specs.declared.Refusal.TheVariants.{Lengths, Range}
 use Rattle.bank.specs.declared.Queue.{Queue}

@@ -1,7 +1,7 @@
 -- Naming waiting entries, and discarding elements. Assumes nothing.
-use Rattle.std.specs.Prelude.{◌≡◌, ℕ, ◌≤◌, List, [], ◌++◌, length, take, drop, Some, None, Option, slice_set}
+use Rattle.std.specs.Prelude.{◌≡◌, ℕ, ◌≤◌, List, [], ◌++◌, length, take, drop, slice_set}
 use Rattle.bank.specs.declared.Queue.{Queue}
-use Rattle.bank.specs.Lists.{oldest, rest, list, put}
+use Rattle.bank.specs.Lists.{list, put}
 use Rattle.bank.specs.Banks.{Mem, Is, Keeps}
 use Rattle.distributor_channels.specs.declared.Entry.{Entry}
 use Rattle.distributor_channels.specs.Meaning.{wakers, onto}

@@ -378,7 +378,7 @@ impl Channels {
     }
 }
 
-// The worked runs.
+// The worked runs: the contract is all that it says, and 0 stands for nothing.
 pub fn runs_stand() -> u8
     ensures { Runs }
 {

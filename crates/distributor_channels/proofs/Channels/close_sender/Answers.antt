@@ -1,6 +1,6 @@
 use Rattle.std.proofs.Common.{◌-◌, sym, refl, ap, ◌∙◌}
 use Rattle.std.proofs.lemmas.Bool.{false≢true}
-use Rattle.distributor_channels.specs.Calls.{seen, facts, records}
+use Rattle.distributor_channels.specs.Calls.{seen, facts}
 use Rattle.distributor_channels.proofs.Chronicle.{left_sender}
 use Rattle.distributor_channels.proofs.Standing.{found_here, unwritten, unfit, beyond}
 use Rattle.distributor_channels.specs.Meaning.{bit}

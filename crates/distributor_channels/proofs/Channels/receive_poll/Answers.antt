@@ -1,6 +1,6 @@
 use Rattle.std.proofs.Common.{sym, refl, ◌∙◌, arith}
 use Rattle.std.proofs.lemmas.Bool.{false≢true}
-use Rattle.distributor_channels.specs.Calls.{seen, facts, records}
+use Rattle.distributor_channels.specs.Calls.{seen, facts}
 use Rattle.distributor_channels.proofs.Chronicle.{received}
 use Rattle.distributor_channels.proofs.Standing.{found_here, unwritten, unfit, beyond}
 use Rattle.distributor_channels.proofs.Receiving.{receive_unfound, receive-shut, receive_end, receive_full, receive_wait, receive_taken, receive_opens, receive_wakes}
