@@ -1,8 +1,10 @@
 -- What calls on the channels do to the book, the notices accepted and the feeds' places. Assumes nothing.
-use Rattle.std.proofs.Common.{◌≡◌, ℕ, zero, suc, ◌+◌, ◌<◌, ◌≤◌, ◌⊎◌, Bool, true, false, cond, not, ◌&&◌, eqb, ltb, List, [], ◌∷◌, ◌++◌, length, get_or, take, drop, set, replicate, Option, Some, None, Ok, Err, vec_items, Result, sym, refl, ap, ◌∙◌, inl, inr, ⊎_elim, append_assoc, append-nil, add-zero, arith, length-append, length-set, EachIndex, IsErr, rules}
+use Rattle.std.proofs.Common.{◌≡◌, ℕ, zero, suc, ◌+◌, ◌<◌, ◌≤◌, ◌⊎◌, Bool, true, false, cond, not, ◌&&◌, eqb, ltb, List, [], ◌∷◌, ◌++◌, length, get_or, take, drop, set, replicate, Option, Some, None, Ok, Err, vec_items, Result, sym, refl, ap, ◌∙◌, inl, inr, ⊎_elim, append_assoc, append-nil, add-zero, arith, length-append, length-set, EachIndex, IsErr, slice_get, map, filter, rules}
 use Rattle.std.specs.List.{find, enumerate_from}
 use Rattle.std.proofs.lemmas.List.Elements.{filter_more, filter-append}
-use Rattle.std.proofs.lemmas.List.{get_or-set_same, get_or-set_other, take_all, length-replicate}
+use Rattle.std.proofs.Math.Bool.{and-true, and-false}
+use Rattle.std.proofs.lemmas.List.{get_or-set_same, get_or-set_other, take_all, length-replicate, map-append}
+use Rattle.std.proofs.lemmas.Option.{slice_get_within, get_or_from_slice_get}
 use Rattle.std.proofs.lemmas.Bool.{cases_eq, eq-eqb, ne_eqb, eqb-true, ltb-true, and_parts, both_ways}
 use Rattle.refusal.specs.declared.Refusal.{Refusal}
 use Rattle.refusal.specs.declared.Refusal.TheVariants.{Lengths, Range, Idle, Ending, Cells, Files, Places, Closed as Shut, Sending as Busy}
@@ -21,7 +23,7 @@ use Rattle.executor.specs.declared.Delivery.{Delivery}
 use Rattle.executor.specs.declared.Sending.{Sending}
 use Rattle.executor.specs.declared.Sending.TheVariants as ours
 use Rattle.executor.specs.declared.run.Run.{Run as Going}
-use Rattle.executor.specs.Books.{of_feed, to_room, booked, Sound, refused_as, outcome_of, advance, sent_by, Stands, Drained, Emptied, Delivered, Onward, Goes}
+use Rattle.executor.specs.Books.{of_feed, to_room, booked, Sound, refused_as, outcome_of, advance, sent_by, Stands, Drained, Emptied, Settles, Onward, Goes}
 
 -- the next notice of the feed f from the place i on is at the place p
 pub record Found (notices : List Notice) (f i p : ℕ) (notice : Notice) : Type 0 where
@@ -64,7 +66,11 @@ module _ (f : ℕ) where
       by false t e = rw t (passed k x xs t _ e)
   next_from k (suc i) (x ∷ xs) = skipped k i x xs _ (next_from (k + 1) i xs)
 
-  pub next_found : (i : ℕ) (xs : List Notice) (r : Option (ℕ × Notice)) → r ≡ find (λ x. eqb x.1.feed f) (drop i (enumerate_from 0 xs)) → Next xs f i r
+  -- what the executor looks for
+  abbrev pub next_in : ℕ → List Notice → Option (ℕ × Notice)
+  next_in i xs = find (λ x. eqb x.1.feed f) (drop i (enumerate_from 0 xs))
+
+  pub next_found : (i : ℕ) (xs : List Notice) (r : Option (ℕ × Notice)) → r ≡ next_in i xs → Next xs f i r
   unfolding NextFrom
   next_found i xs r e = rw e (by _ (next_from 0 i xs))
     where
@@ -73,21 +79,12 @@ module _ (f : ℕ) where
       by (Some x) n = let z : x.0 ≡ n.0 = omega (arith, n.1) in rw z n.2
 
 -- one more at the end
-pub booked-push : (k : ℕ) (ds : List Delivery) (d : Delivery) → booked k (ds ++ d ∷ []) ≡ booked k ds ++ cond (eqb d.room k) (d.id ∷ []) []
-booked-push k [] d = append-nil _
-booked-push k (e ∷ ds) d = ap (λ (u : List ℕ). cond (eqb e.room k) (e.id ∷ []) [] ++ u) (booked-push k ds d) ∙ sym (append_assoc (cond (eqb e.room k) (e.id ∷ []) []) (booked k ds) _)
-
-to_room-push : (k : ℕ) (ns : List Notice) (n : Notice) → to_room k (ns ++ n ∷ []) ≡ to_room k ns ++ cond (eqb n.room k) (n.id ∷ []) []
-to_room-push k [] n = append-nil _
-to_room-push k (e ∷ ns) n = ap (λ (u : List ℕ). cond (eqb e.room k) (e.id ∷ []) [] ++ u) (to_room-push k ns n) ∙ sym (append_assoc (cond (eqb e.room k) (e.id ∷ []) []) (to_room k ns) _)
-
-and_true : {A : Type 0} (b : Bool) (x y : A) → cond (b && true) x y ≡ cond b x y
-and_true true x y = refl
-and_true false x y = refl
-
-and_false : {A : Type 0} (b : Bool) (x y : A) → cond (b && false) x y ≡ y
-and_false true x y = refl
-and_false false x y = refl
+pushed : {X : Type 0} (p : X → Bool) (h : X → ℕ) (xs : List X) (x : X) → map h (filter p (xs ++ x ∷ [])) ≡ map h (filter p xs) ++ cond (p x) (h x ∷ []) []
+pushed p h xs x = rw (filter-append p xs (x ∷ []), map-append h (filter p xs) (cond (p x) (x ∷ []) [])) (ap (λ u. map h (filter p xs) ++ u) (by (p x)))
+  where
+    by : (b : Bool) → map h (cond b (x ∷ []) []) ≡ cond b (h x ∷ []) []
+    by true = refl
+    by false = refl
 
 cond_nil : {A : Type 0} (b : Bool) → ◌≡◌ {A = List A} (cond b [] []) []
 cond_nil true = refl
@@ -101,7 +98,7 @@ delivers k (Ok End) = []
 delivers k (Err _) = []
 
 booked-delivers : (j k : ℕ) (ds : List Delivery) (r : ReceiveAnswer ℕ) → booked j (ds ++ delivers k r) ≡ booked j ds ++ cond (eqb k j) (gives r) []
-booked-delivers j k ds (Ok (Element x _)) = booked-push j ds (record { room = k; id = x })
+booked-delivers j k ds (Ok (Element x _)) = pushed (λ (d : Delivery). eqb d.room j) (λ d. d.id) ds (record { room = k; id = x })
 booked-delivers j k ds (Ok Await) = rw (append-nil ds, cond_nil) (sym (append-nil (booked j ds)))
 booked-delivers j k ds (Ok End) = rw (append-nil ds, cond_nil) (sym (append-nil (booked j ds)))
 booked-delivers j k ds (Err _) = rw (append-nil ds, cond_nil) (sym (append-nil (booked j ds)))
@@ -124,18 +121,12 @@ refused_cases note Files = inr refl
 refused_cases note Cells = inl refl
 refused_cases note Places = inl refl
 
--- a turn that is refused sends nothing, and one that is not sends at most one notice
+-- a turn that is refused sends nothing
 pub not_sent : (r : Result Sending Refusal) (sent : List Notice) → IsErr r → sent_by r sent ≡ sent
 not_sent (Ok o) sent e = absurd (search rules)
 not_sent (Err why) sent e = refl
 
-pub advance_one : (o : Sending) → advance (Ok o) ≤ 1
-advance_one (ours.Sent note w) = omega arith
-advance_one (ours.Waits note) = omega arith
-advance_one (ours.Full note) = omega arith
-advance_one ours.Done = omega arith
-
-module _ (n v : ℕ) (notices sent : List Notice) (c : Channels) (ms : Mems ℕ) (book : List Delivery) (cursors : List ℕ) (s : Sound n v notices sent c ms book cursors) where
+module _ {n v : ℕ} {notices sent : List Notice} {c : Channels} {ms : Mems ℕ} {book : List Delivery} {cursors : List ℕ} (s : Sound n v notices sent c ms book cursors) where
   -- a call that closes no receiver
   module _ {A E : Type 0} (call : Result A E → List ℕ → Event ℕ) (step : Facts → Meaning ℕ → Out ℕ (Result A E)) (c' : Channels) (ms' : Mems ℕ) (r : Result A E)
       (does : Does step c ms c' ms' r) (told : Chronicles call step c ms r) (open-still : (k : ℕ) (ws : List ℕ) → keeps_by k (call r ws) ≡ true) where
@@ -175,16 +166,19 @@ module _ (n v : ℕ) (notices sent : List Notice) (c : Channels) (ms : Mems ℕ)
       (λ j _. append-nil (to_room j sent)) (λ j _. sym (booked-delivers j k book r)) s.order refl
 
   -- a feed's place moves on over notices of others
-  module _ (feed : ℕ) (inside : feed < length cursors) where
-    order_at : (p : ℕ) → of_feed feed (take p notices) ≡ of_feed feed (take (get_or cursors feed 0) notices) → (f : ℕ) → of_feed f sent ≡ of_feed f (take (get_or (set cursors feed p) f 0) notices)
+  module _ (feed from : ℕ) (at : slice_get cursors feed ≡ Some from) where
+    inside : feed < length cursors
+    inside = slice_get_within cursors feed from at
+
+    order_at : (p : ℕ) → of_feed feed (take p notices) ≡ of_feed feed (take from notices) → (f : ℕ) → of_feed f sent ≡ of_feed f (take (get_or (set cursors feed p) f 0) notices)
     order_at p e f =
         ⊎_elim
-        (λ (z : f ≡ feed). rw (z, get_or-set_same cursors feed p 0 inside) (s.order feed ∙ sym e))
+        (λ (z : f ≡ feed). rw (z, get_or-set_same cursors feed p 0 inside, e, ← get_or_from_slice_get cursors feed from 0 at) (s.order feed))
         (λ (ne : f ≡ feed → ⊥). rw (get_or-set_other cursors feed f p 0 ne) (s.order f))
         (cases_eq f feed)
 
     -- it has none left
-    pub sound_done : of_feed feed notices ≡ of_feed feed (take (get_or cursors feed 0) notices) → Sound n v notices sent c ms book (set cursors feed (length notices))
+    pub sound_done : None ≡ next_in feed from notices → Sound n v notices sent c ms book (set cursors feed (length notices))
     sound_done e =
         record {
           history = s.history;
@@ -195,12 +189,15 @@ module _ (n v : ℕ) (notices sent : List Notice) (c : Channels) (ms : Mems ℕ)
           open_ends = s.open_ends;
           accepts = s.accepts;
           gives = s.gives;
-          order = order_at (length notices) (ap (of_feed feed) (take_all (length notices) notices (omega arith)) ∙ e);
+          order = order_at (length notices) (ap (of_feed feed) (take_all (length notices) notices (omega arith)) ∙ next_found feed from notices None e);
           feeds = length-set cursors feed (length notices) ∙ s.feeds;
         }
 
     -- behind a notice of its own, which was polled
-    module _ (i : ℕ) (note : Notice) (next : Found notices feed (get_or cursors feed 0) i note) (w : ℕ) (c' : Channels) (ms' : Mems ℕ) where
+    module _ (i : ℕ) (note : Notice) (found : Some (i, note) ≡ next_in feed from notices) (w : ℕ) (c' : Channels) (ms' : Mems ℕ) where
+      next : Found notices feed from i note
+      next = next_found feed from notices (Some (i, note)) found
+
       abbrev step : Facts → Meaning ℕ → Out ℕ (SendAnswer ℕ)
       step f m = send_step f m note.room w note.id
 
@@ -210,7 +207,7 @@ module _ (n v : ℕ) (notices sent : List Notice) (c : Channels) (ms : Mems ℕ)
           ⊎_elim
           (λ (e : f ≡ feed).
           let t : eqb note.feed feed ≡ true = eq-eqb _ _ next.own in
-          rw (e, get_or-set_same cursors feed (i + 1) 0 inside, filter-append, filter_more (λ (u : Notice). eqb u.feed feed) notices i note h, next.here, t, s.order feed, next.none) refl)
+          rw (e, get_or-set_same cursors feed (i + 1) 0 inside, filter-append, filter_more (λ (u : Notice). eqb u.feed feed) notices i note h, next.here, t, s.order feed, next.none, get_or_from_slice_get cursors feed from 0 at) refl)
           (λ (ne : f ≡ feed → ⊥).
           let t : eqb note.feed f ≡ false = ne_eqb _ _ (λ e. ne (sym e ∙ next.own)) in
           rw (get_or-set_other cursors feed f (i + 1) 0 ne, filter-append, t) (append-nil (of_feed f sent) ∙ s.order f))
@@ -219,13 +216,13 @@ module _ (n v : ℕ) (notices sent : List Notice) (c : Channels) (ms : Mems ℕ)
       accepted_one : (a : ℕ) → Does step c ms c' ms' (Ok (Sent a)) → Chronicles (sends note.room w note.id) step c ms (Ok (Sent a)) → Sound n v notices (sent ++ note ∷ []) c' ms' book (set cursors feed (i + 1))
       accepted_one a d t =
           sound_more (sends note.room w note.id) step c' ms' (Ok (Sent a)) d t (λ _ _. refl) (sent ++ note ∷ []) book (set cursors feed (i + 1))
-          (λ k ws. ap (λ (u : List ℕ). to_room k sent ++ u) (and_true (eqb note.room k) (note.id ∷ []) []) ∙ sym (to_room-push k sent note)) (λ k _. append-nil (booked k book)) order_more (length-set cursors feed (i + 1))
+          (λ k ws. rw (and-true (eqb note.room k)) (sym (pushed (λ (u : Notice). eqb u.room k) (λ u. u.id) sent note))) (λ k _. append-nil (booked k book)) order_more (length-set cursors feed (i + 1))
 
       module _ (r : SendAnswer ℕ) (d : Does step c ms c' ms' r) (t : Chronicles (sends note.room w note.id) step c ms r) (no : accepts r ≡ false) where
         unsent : (cursors' : List ℕ) → ((f : ℕ) → of_feed f sent ≡ of_feed f (take (get_or cursors' f 0) notices)) → length cursors' ≡ length cursors → Sound n v notices sent c' ms' book cursors'
         unsent cursors' eo el =
             sound_more (sends note.room w note.id) step c' ms' r d t (λ _ _. refl) sent book cursors'
-            (λ k ws. rw (no, and_false (eqb note.room k) (note.id ∷ []) []) (append-nil (to_room k sent))) (λ k _. append-nil (booked k book)) eo el
+            (λ k ws. rw (no, and-false (eqb note.room k)) (append-nil (to_room k sent))) (λ k _. append-nil (booked k book)) eo el
 
         kept : Sound n v notices sent c' ms' book (set cursors feed i)
         kept = unsent (set cursors feed i) (order_at i next.none) (length-set cursors feed i)
@@ -277,19 +274,19 @@ given_all n v h m run f k w hd e = by f.fit (ltb k (length m.chans)) refl refl
         let la = ap length q in let lb = length-append (given k h) (chan m k).queue in
         sym (nothing_behind (given k h) (chan m k).queue (empty-none (chan m k).queue (omega arith))) ∙ q
 
-module _ (n v : ℕ) (notices sent : List Notice) (c : Channels) (ms : Mems ℕ) (book : List Delivery) (cursors : List ℕ) (s : Sound n v notices sent c ms book cursors) where
+module _ {n v : ℕ} {notices sent : List Notice} {c : Channels} {ms : Mems ℕ} {book : List Delivery} {cursors : List ℕ} (s : Sound n v notices sent c ms book cursors) where
   -- a room that is told the end has all of its notices in the book
   pub book_full : (k w : ℕ) (c' : Channels) (ms' : Mems ℕ) (r : ReceiveAnswer ℕ) → Does (λ f m. receive_step f m k w) c ms c' ms' r → ends r ≡ true → booked k book ≡ to_room k sent
   book_full k w c' ms' r d e =
       let ea = (d s.others s.meaning s.represents).0 in
-      sym (s.gives k) ∙ given_all n v s.history s.meaning s.run (facts c ms) k w (s.open_ends k) (sym (ap ends ea) ∙ e) ∙ s.accepts k
+      sym (s.gives k) ∙ given_all _ _ s.history s.meaning s.run (facts c ms) k w (s.open_ends k) (sym (ap ends ea) ∙ e) ∙ s.accepts k
 
   -- after a poll: what was accepted still is, and a room that was told the end has it all in the book
   pub drained : (k w : ℕ) (c' : Channels) (ms' : Mems ℕ) (r : ReceiveAnswer ℕ) → Does (λ f m. receive_step f m k w) c ms c' ms' r → Chronicles (receives k w) (λ f m. receive_step f m k w) c ms r →
       (book' : List Delivery) → book' ≡ book ++ delivers k r →
       Sound n v notices sent c' ms' book' cursors × (ends r ≡ true → (book' ≡ book) × (booked k book' ≡ to_room k sent))
   drained k w c' ms' r d t book' eb = (
-    rw eb (sound_polled n v notices sent c ms book cursors s k w c' ms' r d t),
+    rw eb (sound_polled s k w c' ms' r d t),
     λ e.
         let z : book' ≡ book = eb ∙ ap (λ (u : List Delivery). book ++ u) (end_delivers k r e) ∙ append-nil book in
         (z, rw z (book_full k w c' ms' r d e)),
@@ -335,10 +332,9 @@ emptied_more i notices cs f f' f'' b e d ec t = record {
 }
 
 -- all rooms were told the end, and all feeds are at theirs
-pub delivered : (rooms : ℕ) (notices : List Notice) (f f' : Floor) → Emptied rooms notices (vec_items f.cursors) f f' → EachIndex (vec_items f.cursors) (λ j. length notices ≤ get_or (vec_items f.cursors) j 0) →
-    (n v : ℕ) (sent : List Notice) → Stands n v notices sent f → Delivered rooms v notices (vec_items f'.book)
+pub delivered : (rooms : ℕ) (notices : List Notice) (f f' : Floor) → Emptied rooms notices (vec_items f.cursors) f f' → EachIndex (vec_items f.cursors) (λ j. length notices ≤ get_or (vec_items f.cursors) j 0) → Settles rooms notices f f'
 delivered rooms notices f f' e z n v sent s =
-    (sent, (all_sent n v notices sent f.channels (seen f.memories) (vec_items f.book) (vec_items f.cursors) s v (λ j h. let l = s.feeds in z j (omega arith)), (e.rooms n v sent s).1))
+    (sent, (all_sent s v (λ j h. let l = s.feeds in z j (omega arith)), (e.rooms n v sent s).1))
 
 -- onward by no call, and by one stretch after another
 pub onward_none : (notices : List Notice) (f : Floor) → Onward notices f f

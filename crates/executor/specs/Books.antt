@@ -1,7 +1,7 @@
 -- Notices, the book of deliveries, and what ties both to the channels' history. Assumes nothing.
-use Rattle.std.specs.Prelude.{◌≡◌, ℕ, ◌<◌, Bool, true, false, cond, List, [], ◌∷◌, ◌++◌, length, take, Ok, Err, vec_items, filter, Result, ◌==◌, nat_eq, slice_index}
+use Rattle.std.specs.Prelude.{◌≡◌, ℕ, ◌<◌, Bool, true, false, List, [], ◌∷◌, ◌++◌, length, map, take, Ok, Err, vec_items, filter, Result, ◌==◌, nat_eq, slice_index}
 use Rattle.refusal.specs.declared.Refusal.{Refusal}
-use Rattle.refusal.specs.declared.Refusal.TheVariants.{Lengths, Range, Idle, Ending, Cells, Files, Places, Closed as Shut, Sending as Busy}
+use Rattle.refusal.specs.declared.Refusal.TheVariants.{Cells, Places, Closed as Shut}
 use Rattle.distributor_channels.specs.declared.SendPoll.TheVariants.{Wait, Closed, Sent as Accepted}
 use Rattle.distributor_channels.specs.declared.ReceivePoll.{ReceivePoll}
 use Rattle.distributor_channels.specs.Steps.{SendAnswer}
@@ -15,7 +15,7 @@ use Rattle.executor.specs.declared.Floor.{Floor}
 use Rattle.executor.specs.declared.run.Halt.{Halt}
 use Rattle.executor.specs.declared.run.Run.{Run}
 use Rattle.executor.specs.declared.Sending.{Sending}
-use Rattle.executor.specs.declared.Sending.TheVariants.{Sent, Waits, Full, Done}
+use Rattle.executor.specs.declared.Sending.TheVariants.{Sent, Waits, Full}
 
 -- the notices of the feed f, in order
 abbrev pub of_feed : ℕ → List Notice → List Notice
@@ -23,13 +23,11 @@ of_feed f ns = filter (λ n. nat_eq n.feed f) ns
 
 -- the numbers of the notices for the room k, in order
 abbrev pub to_room : ℕ → List Notice → List ℕ
-to_room k [] = []
-to_room k (n ∷ ns) = cond (n.room == k) (n.id ∷ []) [] ++ to_room k ns
+to_room k ns = map (λ n. n.id) (filter (λ n. n.room == k) ns)
 
 -- the numbers that the book has for the room k, in order
 abbrev pub booked : ℕ → List Delivery → List ℕ
-booked k [] = []
-booked k (d ∷ ds) = cond (d.room == k) (d.id ∷ []) [] ++ booked k ds
+booked k ds = map (λ d. d.id) (filter (λ d. d.room == k) ds)
 
 -- Some list of calls on n channels opened with v senders led to what the floor has. No receiver was closed; sent are the notices accepted,
 -- in order; the book has for each room just what its receiver was given, in order; and of each feed's notices those before its cursor were
@@ -55,15 +53,9 @@ Keeps f f' = (n v : ℕ) (notices sent : List Notice) → Stands n v notices sen
 
 -- a refused notice is tried again where only room was wanting
 abbrev pub refused_as : Notice → Refusal → Result Sending Refusal
-refused_as n Lengths = Err Lengths
-refused_as n Range = Err Range
-refused_as n Shut = Err Shut
-refused_as n Busy = Err Busy
-refused_as n Idle = Err Idle
-refused_as n Ending = Err Ending
-refused_as n Files = Err Files
 refused_as n Cells = Ok (Full n)
 refused_as n Places = Ok (Full n)
+refused_as n why = Err why
 
 -- what the answer to a notice's send poll comes to
 abbrev pub outcome_of : Notice → SendAnswer ℕ → Result Sending Refusal
@@ -74,19 +66,13 @@ outcome_of n (Err r) = refused_as n r.why
 
 -- a feed goes on behind a notice that was accepted
 abbrev pub advance : Result Sending Refusal → ℕ
-advance (Ok (Sent n _)) = 1
-advance (Ok (Waits n)) = 0
-advance (Ok (Full n)) = 0
-advance (Ok Done) = 0
-advance (Err _) = 0
+advance (Ok (Sent _ _)) = 1
+advance _ = 0
 
 -- the notices accepted so far, after a turn of a feed
 abbrev pub sent_by : Result Sending Refusal → List Notice → List Notice
 sent_by (Ok (Sent n _)) sent = sent ++ n ∷ []
-sent_by (Ok (Waits n)) sent = sent
-sent_by (Ok (Full n)) sent = sent
-sent_by (Ok Done) sent = sent
-sent_by (Err _) sent = sent
+sent_by _ sent = sent
 
 -- a turn of a feed came to r
 abbrev pub Sends : List Notice → Result Sending Refusal → Floor → Floor → Type 0
@@ -110,6 +96,10 @@ pub record Emptied (i : ℕ) (notices : List Notice) (cs : List ℕ) (f f' : Flo
 -- Everything was delivered: in some order that keeps each feed's own, the notices of the v feeds are what the book has, room by room, for n rooms.
 abbrev pub Delivered : ℕ → ℕ → List Notice → List Delivery → Type 0
 Delivered n v notices book = (sent : List Notice) × (((f : ℕ) → f < v → of_feed f sent ≡ of_feed f notices) × ((k : ℕ) → k < n → booked k book ≡ to_room k sent))
+
+-- all that the floor stands for was delivered to so many rooms
+abbrev pub Settles : ℕ → List Notice → Floor → Floor → Type 0
+Settles rooms notices f f' = (n v : ℕ) (sent : List Notice) → Stands n v notices sent f → Delivered rooms v notices (vec_items f'.book)
 
 -- from one floor to the next by calls alone: what stood still stands, with some more notices accepted
 abbrev pub Onward : List Notice → Floor → Floor → Type 0

@@ -11,7 +11,7 @@
 
 ghost use Rattle.std.specs.Prelude.{◌≡◌, ◌==◌, ◌≤◌, ◌↔◌, ℕ, true, List, [], Ok, IfOk, IsTrue, EachIndex, drop, find, slice_index};
 ghost use Rattle.std.specs.List.{enumerate_from};
-ghost use Rattle.executor.specs.Books.{Stands, Keeps, Sends, Drained, Delivered, outcome_of, advance, told_end};
+ghost use Rattle.executor.specs.Books.{Stands, Keeps, Sends, Drained, Settles, outcome_of, advance, told_end};
 
 pub mod run;
 mod tasks;
@@ -73,7 +73,8 @@ impl Sending {
 
     // How many notices a feed goes on by: one where its own was accepted.
     fn step(&self) -> usize
-        ensures { result ≡ advance (Ok self.now) }
+        ensures law { result ≡ advance (Ok self.now) }
+        ensures one { result ≤ 1 }
     {
         usize::from(matches!(self, Sending::Sent(..)))
     }
@@ -83,16 +84,11 @@ impl Sending {
 impl fmt::Display for Sending {
     fn fmt<W: fmt::Write>(&self, f: &mut fmt::Formatter<W>) -> fmt::Result {
         match self {
-            Sending::Sent(notice, _) => {
-                let Notice { room, id, .. } = notice;
-                write!(f, "sends {id} to room {room}")
-            }
-            Sending::Waits(notice) => {
-                let id = notice.id;
+            Sending::Sent(Notice { room, id, .. }, _) => write!(f, "sends {id} to room {room}"),
+            Sending::Waits(Notice { id, .. }) => {
                 write!(f, "waits with {id}, since every room has something queued")
             }
-            Sending::Full(notice) => {
-                let id = notice.id;
+            Sending::Full(Notice { id, .. }) => {
                 write!(f, "keeps {id}, since the memory is full")
             }
             Sending::Done => write!(f, "has no more, and is closed"),
@@ -206,7 +202,7 @@ impl<'a> Floor<'a> {
 
     // Was everything delivered: has each feed come to its end, and is each room told the end?
     fn settle(&mut self, notices: &[Notice], rooms: usize) -> Result<bool, Halt>
-        ensures { IfOk result (λ b. b ≡ true → ((n v : ℕ) (sent : List Notice) → Stands n v notices.now sent self.old → Delivered rooms v notices.now self.new.book.items)) }
+        ensures { IfOk result (λ b. b ≡ true → Settles rooms notices.now self.old self.new) }
     {
         if !self.all_at_end(notices.len()) {
             return Ok(false);

@@ -1,7 +1,6 @@
 use Rattle.std.proofs.Common.{◌≡◌, ℕ, ◌++◌, ◌∷◌, [], Ok, vec_items, refl, append-nil, rules}
 use Rattle.distributor_channels.specs.declared.ReceivePoll.{ReceivePoll}
 use Rattle.distributor_channels.specs.declared.ReceivePoll.TheVariants.{Element, End, Wait}
-use Rattle.distributor_channels.specs.Calls.{seen}
 use Rattle.executor.proofs.Booking.{drained, delivers}
 use Rattle.executor.proofs.Floor.receive_next.Goals as goal
 
@@ -12,18 +11,16 @@ delivers_none k End ne = refl
 
 pub returns-in-Element-clause-law : goal.returns-in-Element-clause-law
 returns-in-Element-clause-law c = λ n v notices sent s.
-    let me = c.args.self.now in
-    let e : vec_items c.push.new.self ≡ vec_items me.book ++ record { room = c.args.room; id = c.in-Element.id } ∷ [] = search rules in
-    drained n v notices sent me.channels (seen me.memories) (vec_items me.book) (vec_items me.cursors) s c.args.room c.waker-waker.result _ _ (Ok (Element c.in-Element.id c.in-Element.field-1))
+    let e : vec_items c.push.new.self ≡ vec_items c.args.self.now.book ++ record { room = c.args.room; id = c.in-Element.id } ∷ [] = search rules in
+    drained s c.args.room c.waker-waker.result _ _ (Ok (Element c.in-Element.id c.in-Element.field-1))
     (rw c.in-Element.is at c.in_ok-polled.ensures.law) (rw c.in-Element.is at c.in_ok-polled.ensures.history) _ e
 
 pub returns-in_default : goal.returns-in_default
 returns-in_default c = record {
   law = λ n v notices sent s.
-      let me = c.args.self.now in
-      let e : vec_items c.reserve.new.self ≡ vec_items me.book ++ delivers c.args.room (Ok c.in_ok-polled.polled) =
-          rw (delivers_none c.args.room c.in_ok-polled.polled c.in_default.not-Element, append-nil (vec_items me.book)) c.reserve.ensures.items in
-      drained n v notices sent me.channels (seen me.memories) (vec_items me.book) (vec_items me.cursors) s c.args.room c.waker-waker.result _ _ (Ok c.in_ok-polled.polled)
-      c.in_ok-polled.ensures.law c.in_ok-polled.ensures.history _ e;
+      let book = vec_items c.args.self.now.book in
+      let e : vec_items c.reserve.new.self ≡ book ++ delivers c.args.room (Ok c.in_ok-polled.polled) =
+          rw (delivers_none c.args.room c.in_ok-polled.polled c.in_default.not-Element, append-nil book) c.reserve.ensures.items in
+      drained s c.args.room c.waker-waker.result _ _ (Ok c.in_ok-polled.polled) c.in_ok-polled.ensures.law c.in_ok-polled.ensures.history _ e;
   places = refl;
 }
