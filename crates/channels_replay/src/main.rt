@@ -210,7 +210,7 @@ fn perform(channels: &mut Channels, memories: &mut Memories<u32>, call: Call) ->
     }
 }
 
-// Prints a reply, with the wakers that it names.
+// Prints a reply, with the wakers that it names. No Display, since they stand in the woken list and not in the reply.
 fn print<W: Write>(out: &mut W, reply: Reply, woken: &[u32]) -> io::Result<()> {
     let answer = reply.answer;
     write!(out, "{answer}")?;
@@ -232,7 +232,12 @@ fn all_bad<W: Write>(out: &mut W, lines: &[Option<Line>]) -> io::Result<()> {
 }
 
 // Opens channels and makes the calls of a script on them.
-fn run<W: Write>(out: &mut W, heap: Global, opening: Opening, lines: &[Option<Line>]) -> io::Result<()> {
+fn run<W: Write>(
+    out: &mut W,
+    heap: Global,
+    opening: Opening,
+    lines: &[Option<Line>],
+) -> io::Result<()> {
     let mut cells = memory(heap, opening.cells as usize)?;
     let mut places = memory(heap, opening.places as usize)?;
     let mut list = vec![in heap; 0; opening.places as usize]?;

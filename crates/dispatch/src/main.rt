@@ -8,9 +8,9 @@ use bank::memory;
 use distributor_channels::Entry;
 use executor::run::deliver;
 use executor::{Delivery, Notice};
-use std::io;
 use std::io::{BufRead, BufReader};
 use std::str::FromStr;
+use std::{fmt, io};
 
 // The memories are small, so that the gate shuts and cells run out.
 const CELLS: usize = 8;
@@ -65,21 +65,29 @@ fn read_all(rt: &HostRuntime) -> anyhow::Result<Vec<Notice>> {
     Ok(notices)
 }
 
-// The line of the table for one room.
-fn show_room(rt: &HostRuntime, room: usize, book: &[Delivery]) -> io::Result<()> {
-    print!(rt; "  room {room:>2}:")?;
-    for delivery in book.iter().filter(|delivery| delivery.room == room) {
-        let id = delivery.id;
-        print!(rt; " {id}")?;
+// The row of the table for one room.
+#[derive(Clone, Copy)]
+struct Row<'a> {
+    room: usize,
+    book: &'a [Delivery],
+}
+
+impl fmt::Display for Row<'_> {
+    fn fmt<W: fmt::Write>(&self, f: &mut fmt::Formatter<W>) -> fmt::Result {
+        write!(f, "  room {:>2}:", self.room)?;
+        for delivery in self.book.iter().filter(|d| d.room == self.room) {
+            write!(f, " {}", delivery.id)?;
+        }
+        Ok(())
     }
-    println!(rt; "")
 }
 
 // What each room was given, in order.
 fn show(rt: &HostRuntime, rooms: usize, book: &[Delivery]) -> io::Result<()> {
     println!(rt; "delivered, room by room, in order:")?;
     for room in 0..rooms {
-        show_room(rt, room, book)?;
+        let row = Row { room, book };
+        println!(rt; "{row}")?;
     }
     Ok(())
 }

@@ -1,5 +1,5 @@
 -- What calls on the channels do to the book, the notices accepted and the feeds' places. Assumes nothing.
-use Rattle.std.proofs.Common.{◌≡◌, ℕ, zero, suc, ◌+◌, ◌<◌, ◌≤◌, ◌⊎◌, Bool, true, false, cond, not, ◌&&◌, eqb, ltb, List, [], ◌∷◌, ◌++◌, length, get_or, take, drop, set, replicate, Option, Some, None, Ok, Err, vec_items, Result, sym, refl, ap, ◌∙◌, inl, inr, ⊎_elim, append_assoc, append-nil, add-zero, arith, length-append, length-set, EachIndex, IsErr, slice_get, map, filter, rules}
+use Rattle.std.proofs.Common.{◌≡◌, ℕ, zero, suc, ◌+◌, ◌<◌, ◌≤◌, ◌⊎◌, Bool, true, false, cond, not, eqb, ltb, List, [], ◌∷◌, ◌++◌, length, get_or, take, drop, set, replicate, Option, Some, None, Ok, Err, vec_items, Result, sym, refl, ap, ◌∙◌, inl, inr, ⊎_elim, append-nil, add-zero, arith, length-append, length-set, EachIndex, IsErr, slice_get, map, filter, rules}
 use Rattle.std.specs.List.{find, enumerate_from}
 use Rattle.std.proofs.lemmas.List.Elements.{filter_more, filter-append}
 use Rattle.std.proofs.Math.Bool.{and-true, and-false}
@@ -14,7 +14,7 @@ use Rattle.distributor_channels.specs.declared.ReceivePoll.TheVariants.{Element,
 use Rattle.distributor_channels.specs.Meaning.{Meaning, Facts, Out, none, chan, opened}
 use Rattle.distributor_channels.specs.Steps.{SendAnswer, ReceiveAnswer, CloseAnswer, send_step, receive_step, close_sender_step}
 use Rattle.distributor_channels.specs.Histories.{Event, sends, receives, closes_sender, Run, accepted, accepted_by, accepts, given, given_by, gives, heard, keeps_by, ends, left, opening}
-use Rattle.distributor_channels.specs.Calls.{seen, Mems, Others, Represents, Does, Chronicles, facts}
+use Rattle.distributor_channels.specs.Calls.{Mems, Others, Represents, Does, Chronicles, facts}
 use Rattle.distributor_channels.proofs.LawsHold.{laws, run_long}
 use Rattle.distributor_channels.proofs.Ways as way
 use Rattle.executor.specs.declared.Floor.{Floor}
@@ -23,7 +23,7 @@ use Rattle.executor.specs.declared.Delivery.{Delivery}
 use Rattle.executor.specs.declared.Sending.{Sending}
 use Rattle.executor.specs.declared.Sending.TheVariants as ours
 use Rattle.executor.specs.declared.run.Run.{Run as Going}
-use Rattle.executor.specs.Books.{of_feed, to_room, booked, Sound, refused_as, outcome_of, advance, sent_by, Stands, Drained, Emptied, Settles, Onward, Goes}
+use Rattle.executor.specs.Books.{of_feed, to_room, booked, Sound, refused_as, outcome_of, advance, sent_by, Drained, Emptied, Settles, Onward, Goes}
 
 -- the next notice of the feed f from the place i on is at the place p
 pub record Found (notices : List Notice) (f i p : ℕ) (notice : Notice) : Type 0 where

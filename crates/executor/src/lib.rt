@@ -54,10 +54,7 @@ pub enum Sending {
 
 impl Sending {
     // What the answer to a notice's send poll comes to. A refused notice is tried again where only room was wanting.
-    fn of(
-        notice: Notice,
-        polled: Result<SendPoll<u64>, Refused<u64>>,
-    ) -> Result<Sending, Refusal>
+    fn of(notice: Notice, polled: Result<SendPoll<u64>, Refused<u64>>) -> Result<Sending, Refusal>
         ensures { result ≡ outcome_of notice polled }
     {
         match polled {
@@ -171,9 +168,7 @@ impl<'a> Floor<'a> {
         // first of all, so that nothing is taken out that can't be booked
         self.book.reserve(1)?;
         let waker = Task::Room(room).waker();
-        let polled = self
-            .channels
-            .receive_poll(&mut self.memories, room, waker)?;
+        let polled = self.channels.receive_poll(&mut self.memories, room, waker)?;
         if let ReceivePoll::Element(id, _) = polled {
             self.book.push(Delivery { room, id }).unwrap();
         }

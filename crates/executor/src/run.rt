@@ -48,8 +48,8 @@ impl From<AllocError> for Halt {
 impl<T: Drop> From<AllocFailed<T>> for Halt {
     ghost from_gives = { λ _ halt. halt ≡ Memory };
 
-    fn from(_e: AllocFailed<T>) -> Halt {
-        Halt::Memory
+    fn from(failed: AllocFailed<T>) -> Halt {
+        Halt::from(AllocError::from(failed))
     }
 }
 
@@ -158,7 +158,7 @@ impl Run<'_, '_> {
 #[derive(Drop)]
 pub struct Outcome<'a> {
     pub floor: Floor<'a>,
-    // no enum, since callers want the floor in both cases
+    // no enum, since callers want the floor whether all was delivered or not
     pub all: bool,
 }
 

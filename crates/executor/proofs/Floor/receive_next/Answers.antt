@@ -20,7 +20,7 @@ returns-in_default c = record {
   law = λ n v notices sent s.
       let book = vec_items c.args.self.now.book in
       let e : vec_items c.reserve.new.self ≡ book ++ delivers c.args.room (Ok c.in_ok-polled.polled) =
-          rw (delivers_none c.args.room c.in_ok-polled.polled c.in_default.not-Element, append-nil book) c.reserve.ensures.items in
+      rw (delivers_none c.args.room c.in_ok-polled.polled c.in_default.not-Element, append-nil book) c.reserve.ensures.items in
       drained s c.args.room c.waker-waker.result _ _ (Ok c.in_ok-polled.polled) c.in_ok-polled.ensures.law c.in_ok-polled.ensures.history _ e;
   places = refl;
 }

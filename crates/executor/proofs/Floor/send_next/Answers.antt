@@ -1,4 +1,4 @@
-use Rattle.std.proofs.Common.{◌≡◌, slice_get, vec_items, None, Some, rules, arith}
+use Rattle.std.proofs.Common.{◌≡◌, slice_get, vec_items, Some, rules, arith}
 use Rattle.std.proofs.lemmas.Option.{slice_get_read}
 use Rattle.executor.proofs.Booking.{next_found, not_sent, sound_done, sound_sent, sound_refused}
 use Rattle.executor.proofs.Floor.send_next.Goals as goal

@@ -1,5 +1,5 @@
 use Rattle.std.proofs.Common.{◌≡◌, vec_items, arith}
-use Rattle.executor.proofs.Booking.{emptied_none, emptied_more, delivered}
+use Rattle.executor.proofs.Booking.{emptied_more, delivered}
 use Rattle.executor.proofs.Floor.settle.Goals as goal
 
 pub loop-room-preserved : goal.loop-room-preserved
