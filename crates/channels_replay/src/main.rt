@@ -10,14 +10,14 @@
 // named, ` wake` and they follow in order. A line that is no call, or a call with no channels open, is answered `bad`.
 #![tactic(auto)]
 
-ghost use Rattle.std.specs.Prelude.{◌≡◌, ◌≤◌, IfOk, Some, None, vec_len};
-ghost use Rattle.channels_replay.specs.Replies.{send_reply, receive_reply, close_reply, Performs};
+ghost use Rattle.std.specs.Prelude.{◌≡◌, ◌≤◌, IfSome};
+ghost use Rattle.channels_replay.specs.Replies.{with_named, send_reply, receive_reply, close_reply, Performs};
 ghost use Rattle.distributor_channels.specs.Calls.{seen};
 
-use bank::{Bank, Cell};
+use bank::{Bank, memory};
 use distributor_channels::{Channels, Memories, ReceivePoll, Refused, SendPoll, Woken};
 use refusal::Refusal;
-use std::alloc::{AllocError, Global};
+use std::alloc::Global;
 use std::io::{BufRead, BufReader, BufWriter, Write};
 use std::str::SplitWhitespace;
 use std::{fmt, io};
@@ -54,12 +54,11 @@ enum Call {
     },
 }
 
-// What a line says.
+// What a line says, if it says anything.
 #[derive(Clone, Copy)]
 enum Line {
     Open(Opening),
     Act(Call),
-    Bad,
 }
 
 // What a call is answered.
@@ -90,118 +89,109 @@ impl fmt::Display for Answer {
             Answer::Element(x) => write!(f, "element {x}"),
             Answer::End => write!(f, "end"),
             Answer::Done => write!(f, "done"),
-            Answer::Refused(why) => {
-                let number = why.number();
-                write!(f, "refused {number}")
-            }
+            Answer::Refused(why) => write!(f, "{why}"),
+        }
+    }
+}
+
+// An answer that names nobody.
+impl From<Answer> for Reply {
+    ghost from_gives = { λ answer reply. reply ≡ with_named answer 0 };
+
+    fn from(answer: Answer) -> Reply {
+        Reply { answer, named: 0 }
+    }
+}
+
+// The reply to a send poll.
+impl From<Result<SendPoll<u32>, Refused<u32>>> for Reply {
+    ghost from_gives = { λ polled reply. reply ≡ send_reply polled };
+
+    fn from(polled: Result<SendPoll<u32>, Refused<u32>>) -> Reply {
+        match polled {
+            Ok(SendPoll::Sent(named)) => Reply {
+                answer: Answer::Sent,
+                named,
+            },
+            Ok(SendPoll::Wait(_)) => Answer::Wait.into(),
+            Ok(SendPoll::Closed(_)) => Answer::Closed.into(),
+            Err(refused) => Answer::Refused(refused.why).into(),
+        }
+    }
+}
+
+// The reply to a receive poll.
+impl From<Result<ReceivePoll<u32>, Refusal>> for Reply {
+    ghost from_gives = { λ polled reply. reply ≡ receive_reply polled };
+
+    fn from(polled: Result<ReceivePoll<u32>, Refusal>) -> Reply {
+        match polled {
+            Ok(ReceivePoll::Element(x, named)) => Reply {
+                answer: Answer::Element(x),
+                named,
+            },
+            Ok(ReceivePoll::Wait) => Answer::Wait.into(),
+            Ok(ReceivePoll::End) => Answer::End.into(),
+            Err(why) => Answer::Refused(why).into(),
+        }
+    }
+}
+
+// The reply to a close.
+impl From<Result<usize, Refusal>> for Reply {
+    ghost from_gives = { λ closed reply. reply ≡ close_reply closed };
+
+    fn from(closed: Result<usize, Refusal>) -> Reply {
+        match closed {
+            Ok(named) => Reply {
+                answer: Answer::Done,
+                named,
+            },
+            Err(why) => Answer::Refused(why).into(),
         }
     }
 }
 
 // The next word, as a number of at most `most`.
 fn number(words: &mut SplitWhitespace, most: u32) -> Option<u32>
-    ensures { elim result [ None ↦ Unit {0} | Some x ↦ x ≤ most ] }
+    ensures { IfSome result (λ x. x ≤ most) }
 {
-    let x = words.next()?.parse::<u32>().ok()?;
-    if x <= most { Some(x) } else { None }
+    words.next()?.parse().ok().filter(|x| *x <= most)
 }
 
 // The next word, as a channel.
 fn channel(words: &mut SplitWhitespace) -> Option<usize> {
-    let k = number(words, u32::MAX)?;
-    Some(k as usize)
+    number(words, u32::MAX).map(|k| k as usize)
 }
 
-// The line whose first word is `what`, from the words behind it.
-fn behind(what: &str, words: &mut SplitWhitespace) -> Option<Line> {
-    let line = match what {
+// What the line `text` says: a first word that tells which, and the numbers behind it.
+fn read(text: &str) -> Option<Line> {
+    let mut words = text.split_whitespace();
+    let line = match words.next()? {
         "o" => Line::Open(Opening {
-            n: number(words, u32::MAX)?,
-            senders: number(words, u32::MAX)?,
-            cells: number(words, LONGEST)?,
-            places: number(words, LONGEST)?,
+            n: number(&mut words, u32::MAX)?,
+            senders: number(&mut words, u32::MAX)?,
+            cells: number(&mut words, LONGEST)?,
+            places: number(&mut words, LONGEST)?,
         }),
         "s" => Line::Act(Call::Send {
-            channel: channel(words)?,
-            waker: number(words, u32::MAX)?,
-            element: number(words, u32::MAX)?,
+            channel: channel(&mut words)?,
+            waker: number(&mut words, u32::MAX)?,
+            element: number(&mut words, u32::MAX)?,
         }),
         "r" => Line::Act(Call::Receive {
-            channel: channel(words)?,
-            waker: number(words, u32::MAX)?,
+            channel: channel(&mut words)?,
+            waker: number(&mut words, u32::MAX)?,
         }),
         "c" => Line::Act(Call::CloseSender {
-            channel: channel(words)?,
+            channel: channel(&mut words)?,
         }),
         "x" => Line::Act(Call::CloseReceiver {
-            channel: channel(words)?,
+            channel: channel(&mut words)?,
         }),
         _ => return None,
     };
-    if words.next().is_some() {
-        None
-    } else {
-        Some(line)
-    }
-}
-
-// What the line `text` says.
-fn read(text: &str) -> Line {
-    let mut words = text.split_whitespace();
-    let Some(what) = words.next() else {
-        return Line::Bad;
-    };
-    behind(what, &mut words).unwrap_or(Line::Bad)
-}
-
-// An answer that names nobody.
-fn plain(answer: Answer) -> Reply
-    ensures { (result.answer ≡ answer) × (result.named ≡ 0) }
-{
-    Reply { answer, named: 0 }
-}
-
-// The reply to a send poll.
-fn send_reply(polled: Result<SendPoll<u32>, Refused<u32>>) -> Reply
-    ensures { result ≡ send_reply polled }
-{
-    match polled {
-        Ok(SendPoll::Sent(named)) => Reply {
-            answer: Answer::Sent,
-            named,
-        },
-        Ok(SendPoll::Wait(_)) => plain(Answer::Wait),
-        Ok(SendPoll::Closed(_)) => plain(Answer::Closed),
-        Err(refused) => plain(Answer::Refused(refused.why)),
-    }
-}
-
-// The reply to a receive poll.
-fn receive_reply(polled: Result<ReceivePoll<u32>, Refusal>) -> Reply
-    ensures { result ≡ receive_reply polled }
-{
-    match polled {
-        Ok(ReceivePoll::Element(x, named)) => Reply {
-            answer: Answer::Element(x),
-            named,
-        },
-        Ok(ReceivePoll::Wait) => plain(Answer::Wait),
-        Ok(ReceivePoll::End) => plain(Answer::End),
-        Err(why) => plain(Answer::Refused(why)),
-    }
-}
-
-// The reply to a close.
-fn close_reply(closed: Result<usize, Refusal>) -> Reply
-    ensures { result ≡ close_reply closed }
-{
-    match closed {
-        Ok(named) => Reply {
-            answer: Answer::Done,
-            named,
-        },
-        Err(why) => plain(Answer::Refused(why)),
-    }
+    words.next().is_none().then_some(line)
 }
 
 // Makes a call.
@@ -213,16 +203,14 @@ fn perform(channels: &mut Channels, memories: &mut Memories<u32>, call: Call) ->
             channel,
             waker,
             element,
-        } => send_reply(channels.send_poll(memories, channel, waker, element)),
-        Call::Receive { channel, waker } => {
-            receive_reply(channels.receive_poll(memories, channel, waker))
-        }
-        Call::CloseSender { channel } => close_reply(channels.close_sender(memories, channel)),
-        Call::CloseReceiver { channel } => close_reply(channels.close_receiver(memories, channel)),
+        } => channels.send_poll(memories, channel, waker, element).into(),
+        Call::Receive { channel, waker } => channels.receive_poll(memories, channel, waker).into(),
+        Call::CloseSender { channel } => channels.close_sender(memories, channel).into(),
+        Call::CloseReceiver { channel } => channels.close_receiver(memories, channel).into(),
     }
 }
 
-// Prints a reply, with the wakers that it names.
+// Prints a reply, with the wakers that it names. No Display, since they stand in the woken list and not in the reply.
 fn print<W: Write>(out: &mut W, reply: Reply, woken: &[u32]) -> io::Result<()> {
     let answer = reply.answer;
     write!(out, "{answer}")?;
@@ -235,19 +223,8 @@ fn print<W: Write>(out: &mut W, reply: Reply, woken: &[u32]) -> io::Result<()> {
     writeln!(out)
 }
 
-// A memory of `n` cells.
-fn memory<T: Drop>(heap: Global, n: u32) -> Result<Vec<Cell<T>>, AllocError>
-    ensures { IfOk result (λ v. vec_len v ≡ n) }
-{
-    let mut cells = Vec::new(heap);
-    for _ in 0..n {
-        cells.push(Cell::new())?;
-    }
-    Ok(cells)
-}
-
 // Answers lines that find no channels open.
-fn all_bad<W: Write>(out: &mut W, lines: &[Line]) -> io::Result<()> {
+fn all_bad<W: Write>(out: &mut W, lines: &[Option<Line>]) -> io::Result<()> {
     for _ in lines {
         writeln!(out, "bad")?;
     }
@@ -255,9 +232,14 @@ fn all_bad<W: Write>(out: &mut W, lines: &[Line]) -> io::Result<()> {
 }
 
 // Opens channels and makes the calls of a script on them.
-fn run<W: Write>(out: &mut W, heap: Global, opening: Opening, lines: &[Line]) -> io::Result<()> {
-    let mut cells = memory(heap, opening.cells)?;
-    let mut places = memory(heap, opening.places)?;
+fn run<W: Write>(
+    out: &mut W,
+    heap: Global,
+    opening: Opening,
+    lines: &[Option<Line>],
+) -> io::Result<()> {
+    let mut cells = memory(heap, opening.cells as usize)?;
+    let mut places = memory(heap, opening.places as usize)?;
     let mut list = vec![in heap; 0; opening.places as usize]?;
     let mut memories = Memories {
         elements: Bank::new(&mut cells),
@@ -267,14 +249,14 @@ fn run<W: Write>(out: &mut W, heap: Global, opening: Opening, lines: &[Line]) ->
     let mut channels = match Channels::open(&memories, opening.n as usize, opening.senders) {
         Ok(channels) => channels,
         Err(why) => {
-            print(out, plain(Answer::Refused(why)), &[])?;
+            print(out, Answer::Refused(why).into(), &[])?;
             return all_bad(out, lines);
         }
     };
     writeln!(out, "opened")?;
     for line in lines {
         match line {
-            Line::Act(call) => {
+            Some(Line::Act(call)) => {
                 let reply = perform(&mut channels, &mut memories, *call);
                 print(out, reply, memories.woken.list)?;
             }
@@ -285,9 +267,9 @@ fn run<W: Write>(out: &mut W, heap: Global, opening: Opening, lines: &[Line]) ->
 }
 
 // Runs a script: an opening with what follows it, or what stands before the first one.
-fn script<W: Write>(out: &mut W, heap: Global, lines: &[Line]) -> io::Result<()> {
+fn script<W: Write>(out: &mut W, heap: Global, lines: &[Option<Line>]) -> io::Result<()> {
     match lines {
-        [Line::Open(opening), calls @ ..] => run(out, heap, *opening, calls),
+        [Some(Line::Open(opening)), calls @ ..] => run(out, heap, *opening, calls),
         _ => all_bad(out, lines),
     }
 }
@@ -298,7 +280,7 @@ fn main(rt: HostRuntime) -> io::Result<()> {
     let mut lines = Vec::new(heap);
     for text in BufReader::new(heap, rt.stdin())?.lines(heap) {
         let line = read(text?.as_str());
-        if matches!(line, Line::Open(_)) {
+        if matches!(line, Some(Line::Open(_))) {
             script(&mut out, heap, &lines)?;
             lines.clear();
         }

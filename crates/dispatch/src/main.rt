@@ -4,183 +4,128 @@
 // as it happens, and at the end what each room was given.
 #![tactic(auto)]
 
-use anyhow::anyhow;
-use bank::Cell;
+use bank::memory;
 use distributor_channels::Entry;
-use executor::run::{Halt, deliver};
+use executor::run::deliver;
 use executor::{Delivery, Notice};
-use std::alloc::{AllocError, Global};
-use std::io;
 use std::io::{BufRead, BufReader};
+use std::str::FromStr;
+use std::{fmt, io};
 
 // The memories are small, so that the gate shuts and cells run out.
 const CELLS: usize = 8;
 
 const PLACES: usize = 64;
 
-// What one line is.
+// Feeds and rooms are numbered below this.
+const MOST: usize = 32;
+
+// What a line is that has words, but is no notice.
 #[derive(Clone, Copy)]
-enum Line {
-    Notice(Notice),
-    Empty,
-    Bad,
+struct NotANotice;
+
+// The number that a word is.
+fn number<T: FromStr>(word: Option<&str>) -> Result<T, NotANotice>
+where
+    T::Err: Drop,
+{
+    word.and_then(|text| text.parse().ok()).ok_or(NotANotice)
 }
 
-// The notices read, and one more than the highest feed and room.
-#[derive(Drop)]
-struct Intake {
-    notices: Vec<Notice>,
-    feeds: u32,
-    rooms: usize,
-}
-
-// The number that a word is, if it is one.
-fn number(word: Option<&str>) -> Option<u64> {
-    match word {
-        Some(text) => text.parse::<u64>().ok(),
-        None => None,
-    }
-}
-
-// Reads `feed room id`.
-fn read(line: &str) -> Line {
+// Reads `feed room id`, or no notice where the line is empty.
+fn read(line: &str) -> Result<Option<Notice>, NotANotice> {
     let mut words = line.split_whitespace();
-    let first = words.next();
-    if first.is_none() {
-        return Line::Empty;
-    }
-    let Some(feed) = number(first) else {
-        return Line::Bad;
+    let Some(first) = words.next() else {
+        return Ok(None);
     };
-    let Some(room) = number(words.next()) else {
-        return Line::Bad;
-    };
-    let Some(id) = number(words.next()) else {
-        return Line::Bad;
-    };
-    if feed >= 32 || room >= 32 || words.next().is_some() {
-        return Line::Bad;
+    let feed = number(Some(first))?;
+    let room = number(words.next())?;
+    let id = number(words.next())?;
+    if feed >= MOST || room >= MOST || words.next().is_some() {
+        return Err(NotANotice);
     }
-    Line::Notice(Notice {
-        feed: feed as usize,
-        room: room as usize,
-        id,
-    })
-}
-
-impl Intake {
-    // Takes in one line, or says that it is no notice.
-    fn take(&mut self, rt: &HostRuntime, at: u64, line: Line) -> anyhow::Result<()> {
-        match line {
-            Line::Notice(notice) => {
-                self.notices.push(notice)?;
-                self.feeds = self.feeds.max((notice.feed & 0xff) as u32 + 1);
-                self.rooms = self.rooms.max(notice.room.saturating_add(1));
-            }
-            Line::Empty => {}
-            Line::Bad => println!(rt; "line {at} is no notice, and is passed over")?,
-        }
-        Ok(())
-    }
+    Ok(Some(Notice { feed, room, id }))
 }
 
 // Reads all lines; a line that is no text is no notice either.
-fn read_all(rt: &HostRuntime) -> anyhow::Result<Intake> {
-    let mut all = Intake {
-        notices: Vec::new(rt.alloc()),
-        feeds: 0,
-        rooms: 0,
-    };
-    let mut at: u64 = 0;
-    for line in BufReader::new(rt.alloc(), rt.stdin())?.lines(rt.alloc()) {
-        at = at.saturating_add(1);
-        match line {
-            Ok(text) => all.take(rt, at, read(text.as_str()))?,
-            Err(e) => {
-                if e.kind() != io::ErrorKind::InvalidData {
-                    return Err(e.into());
-                }
-                all.take(rt, at, Line::Bad)?;
-            }
+fn read_all(rt: &HostRuntime) -> anyhow::Result<Vec<Notice>> {
+    let mut notices = Vec::new(rt.alloc());
+    let lines = BufReader::new(rt.alloc(), rt.stdin())?.lines(rt.alloc());
+    for (at, line) in (1u64..).zip(lines) {
+        let notice = match line {
+            Ok(text) => read(text.as_str()),
+            Err(e) if e.kind() == io::ErrorKind::InvalidData => Err(NotANotice),
+            Err(e) => return Err(e.into()),
+        };
+        match notice {
+            Ok(notice) => notices.extend(notice)?,
+            Err(NotANotice) => println!(rt; "line {at} is no notice, and is passed over")?,
         }
     }
-    Ok(all)
+    Ok(notices)
 }
 
-// The lines of the table for one room.
-fn show_room(rt: &HostRuntime, room: usize, book: &[Delivery]) -> io::Result<()> {
-    print!(rt; "  room {room:>2}:")?;
-    for delivery in book {
-        if delivery.room == room {
-            let id = delivery.id;
-            print!(rt; " {id}")?;
+// The row of the table for one room.
+#[derive(Clone, Copy)]
+struct Row<'a> {
+    room: usize,
+    book: &'a [Delivery],
+}
+
+impl fmt::Display for Row<'_> {
+    fn fmt<W: fmt::Write>(&self, f: &mut fmt::Formatter<W>) -> fmt::Result {
+        write!(f, "  room {:>2}:", self.room)?;
+        for delivery in self.book.iter().filter(|d| d.room == self.room) {
+            write!(f, " {}", delivery.id)?;
         }
+        Ok(())
     }
-    println!(rt; "")
 }
 
 // What each room was given, in order.
 fn show(rt: &HostRuntime, rooms: usize, book: &[Delivery]) -> io::Result<()> {
     println!(rt; "delivered, room by room, in order:")?;
     for room in 0..rooms {
-        show_room(rt, room, book)?;
+        let row = Row { room, book };
+        println!(rt; "{row}")?;
     }
     Ok(())
 }
 
-// Cells to make a memory of.
-fn cells<T: Drop>(heap: Global, n: usize) -> Result<Vec<Cell<T>>, AllocError> {
-    let mut all = Vec::new(heap);
-    for _ in 0..n {
-        all.push(Cell::new())?;
-    }
-    Ok(all)
-}
-
-// Why a delivery stopped.
-fn reason(halt: Halt) -> anyhow::Error {
-    match halt {
-        Halt::Refused(_) => anyhow!("a call was refused"),
-        Halt::Memory => anyhow!("no memory is left"),
-        Halt::Output(e) => e.into(),
-    }
-}
-
-fn dispatch(rt: &HostRuntime) -> anyhow::Result<()> {
-    let all = read_all(rt)?;
-    let count = all.notices.len();
-    if count == 0 {
-        println!(rt; "no notice, nothing to deliver")?;
-        return Ok(());
-    }
-    let mut elements: Vec<Cell<u64>> = cells(rt.alloc(), CELLS)?;
-    let mut entries: Vec<Cell<Entry>> = cells(rt.alloc(), PLACES)?;
-    let mut woken = vec![in rt.alloc(); 0u32; PLACES]?;
-    let delivered = deliver(
-        rt.alloc(),
-        elements.as_mut_slice(),
-        entries.as_mut_slice(),
-        woken.as_mut_slice(),
-        all.notices.as_slice(),
-        all.feeds,
-        all.rooms,
+// Delivers the notices, and prints what came of it.
+fn dispatch(rt: &HostRuntime, notices: &[Notice]) -> anyhow::Result<()> {
+    let heap = rt.alloc();
+    let feeds = notices.iter().map(|notice| notice.feed).max();
+    let rooms = notices.iter().map(|notice| notice.room).max();
+    let feeds = feeds.map_or(0, |highest| highest.saturating_add(1));
+    let rooms = rooms.map_or(0, |highest| highest.saturating_add(1));
+    let mut elements = memory::<u64>(heap, CELLS)?;
+    let mut entries = memory::<Entry>(heap, PLACES)?;
+    let mut woken = vec![in heap; 0u32; PLACES]?;
+    let outcome = deliver(
+        heap,
+        &mut elements,
+        &mut entries,
+        &mut woken,
+        notices,
+        u32::try_from(feeds).unwrap_or(u32::MAX),
+        rooms,
         rt,
-    );
-    let outcome = match delivered {
-        Ok(outcome) => outcome,
-        Err(halt) => return Err(reason(halt)),
-    };
+    )?;
     let book = outcome.floor.deliveries();
-    show(rt, all.rooms, book)?;
+    show(rt, rooms, book)?;
     let given = book.len();
-    if outcome.all {
-        println!(rt; "{given} of {count} delivered, nothing is left")?;
-    } else {
-        println!(rt; "{given} of {count} delivered, the rest is left")?;
-    }
+    let count = notices.len();
+    let rest = if outcome.all { "nothing" } else { "the rest" };
+    println!(rt; "{given} of {count} delivered, {rest} is left")?;
     Ok(())
 }
 
 fn main(rt: HostRuntime) -> anyhow::Result<()> {
-    dispatch(&rt)
+    let notices = read_all(&rt)?;
+    if notices.is_empty() {
+        println!(rt; "no notice, nothing to deliver")?;
+        return Ok(());
+    }
+    dispatch(&rt, &notices)
 }

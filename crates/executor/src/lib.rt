@@ -9,19 +9,23 @@
 // the gate or the memory stops them.
 #![tactic(auto)]
 
-ghost use Rattle.std.specs.Prelude.{◌≡◌, ℕ, true, List, [], length, IfOk, OnOk, slice_index, slice_set};
-ghost use Rattle.distributor_channels.specs.Histories.{ends};
-ghost use Rattle.executor.specs.Books.{Stands, sent_by, refused_as, outcome_of, advance, given_of, Next, AtEnd, Drained, Delivered};
+ghost use Rattle.std.specs.Prelude.{◌≡◌, ◌==◌, ◌≤◌, ◌↔◌, ℕ, true, List, [], Ok, IfOk, IsTrue, EachIndex, drop, find, slice_index};
+ghost use Rattle.std.specs.List.{enumerate_from};
+ghost use Rattle.executor.specs.Books.{Stands, Keeps, Sends, Drained, Settles, outcome_of, advance, told_end};
 
 pub mod run;
+mod tasks;
 
+use crate::run::Halt;
+use crate::tasks::Task;
 use bank::{Bank, Cell};
 use distributor_channels::{Channels, Entry, Memories, ReceivePoll, Refused, SendPoll, Woken};
 use refusal::Refusal;
-use std::alloc::{AllocError, Global};
+use std::alloc::Global;
+use std::fmt;
 
 // One notice: the feed that brings it, the room that it is for, and its number.
-#[derive(Clone, Copy)]
+#[derive(Clone, Copy, PartialEq, Eq, Debug)]
 pub struct Notice {
     pub feed: usize,
     pub room: usize,
@@ -29,14 +33,14 @@ pub struct Notice {
 }
 
 // One delivery: the room, and the number of the notice.
-#[derive(Clone, Copy)]
+#[derive(Clone, Copy, PartialEq, Eq, Debug)]
 pub struct Delivery {
     pub room: usize,
     pub id: u64,
 }
 
 // What a turn of a feed came to.
-#[derive(Clone, Copy)]
+#[derive(Clone, Copy, PartialEq, Eq, Debug)]
 pub enum Sending {
     // the notice is in its room's queue; so many wakers were named
     Sent(Notice, usize),
@@ -48,124 +52,66 @@ pub enum Sending {
     Done,
 }
 
+impl Sending {
+    // What the answer to a notice's send poll comes to. A refused notice is tried again where only room was wanting.
+    fn of(notice: Notice, polled: Result<SendPoll<u64>, Refused<u64>>) -> Result<Sending, Refusal>
+        ensures { result ≡ outcome_of notice polled }
+    {
+        match polled {
+            Ok(SendPoll::Sent(named)) => Ok(Sending::Sent(notice, named)),
+            Ok(SendPoll::Wait(_)) => Ok(Sending::Waits(notice)),
+            Ok(SendPoll::Closed(_)) => Err(Refusal::Closed),
+            Err(refused) => match refused.why {
+                Refusal::Cells | Refusal::Places => Ok(Sending::Full(notice)),
+                why => Err(why),
+            },
+        }
+    }
+
+    // How many notices a feed goes on by: one where its own was accepted.
+    fn step(&self) -> usize
+        ensures law { result ≡ advance (Ok self.now) }
+        ensures one { result ≤ 1 }
+    {
+        usize::from(matches!(self, Sending::Sent(..)))
+    }
+}
+
+// What is said of the feed.
+impl fmt::Display for Sending {
+    fn fmt<W: fmt::Write>(&self, f: &mut fmt::Formatter<W>) -> fmt::Result {
+        match self {
+            Sending::Sent(Notice { room, id, .. }, _) => write!(f, "sends {id} to room {room}"),
+            Sending::Waits(Notice { id, .. }) => {
+                write!(f, "waits with {id}, since every room has something queued")
+            }
+            Sending::Full(Notice { id, .. }) => {
+                write!(f, "keeps {id}, since the memory is full")
+            }
+            Sending::Done => write!(f, "has no more, and is closed"),
+        }
+    }
+}
+
+// The next notice of `feed` from the place `from` on, with its place.
+fn next_of(notices: &[Notice], feed: usize, from: usize) -> Option<(usize, Notice)>
+    ensures { result ≡ find (λ x. x.1.feed == feed) (drop from (enumerate_from 0 notices.now)) }
+{
+    notices
+        .iter()
+        .copied()
+        .enumerate()
+        .skip(from)
+        .find(|(_, notice)| notice.feed == feed)
+}
+
 // The channels with their memories, the book of what was delivered, and how far each feed has come in the list of notices.
 #[derive(Drop)]
 pub struct Floor<'a> {
     channels: Channels,
     memories: Memories<'a, u64>,
     book: Vec<Delivery>,
-    cursors: [usize; 32],
-}
-
-// The place of the next notice of `feed` from `from` on, or the number of notices.
-fn next_of(notices: &[Notice], feed: usize, from: usize) -> usize
-    ensures { Next notices.now feed from result }
-{
-    let mut i = from;
-    while i < notices.len() {
-        if notices[i].feed == feed {
-            return i;
-        }
-        i += 1;
-    }
-    i
-}
-
-// The place of a feed, or 0.
-fn cursor_at(cursors: &[usize], feed: usize) -> usize
-    ensures { result ≡ slice_index cursors.now feed }
-{
-    if feed < cursors.len() {
-        cursors[feed]
-    } else {
-        0
-    }
-}
-
-// How many feeds have a place.
-fn count(cursors: &[usize]) -> usize
-    ensures { result ≡ length cursors.now }
-{
-    cursors.len()
-}
-
-// Writes the place of a feed, if it has one.
-fn write_cursor(cursors: &mut [usize], feed: usize, to: usize)
-    ensures { cursors.new ≡ slice_set cursors.old feed to }
-{
-    if feed < cursors.len() {
-        cursors[feed] = to;
-    }
-}
-
-// A waker for a task.
-fn waker_of(task: usize) -> u32 {
-    (task & 0xffff_ffff) as u32
-}
-
-// A refused notice is tried again where only room was wanting.
-fn refused_as(notice: Notice, why: Refusal) -> Result<Sending, Refusal>
-    ensures { result ≡ refused_as notice why }
-{
-    match why {
-        Refusal::Cells => Ok(Sending::Full(notice)),
-        Refusal::Places => Ok(Sending::Full(notice)),
-        _ => Err(why),
-    }
-}
-
-// What the answer to a notice's send poll comes to.
-fn outcome(notice: Notice, polled: Result<SendPoll<u64>, Refused<u64>>) -> Result<Sending, Refusal>
-    ensures { result ≡ outcome_of notice polled }
-{
-    match polled {
-        Ok(SendPoll::Sent(named)) => Ok(Sending::Sent(notice, named)),
-        Ok(SendPoll::Wait(_)) => Ok(Sending::Waits(notice)),
-        Ok(SendPoll::Closed(_)) => Err(Refusal::Closed),
-        Err(refused) => refused_as(notice, refused.why),
-    }
-}
-
-// What a room was given, if anything.
-fn given(polled: &Result<ReceivePoll<u64>, Refusal>) -> Option<u64>
-    ensures { result ≡ given_of polled.now }
-{
-    match polled {
-        Ok(ReceivePoll::Element(id, _)) => Some(*id),
-        _ => None,
-    }
-}
-
-// A feed goes on behind a notice that was accepted.
-fn step_of(sending: &Result<Sending, Refusal>) -> usize
-    ensures { result ≡ advance sending.now }
-{
-    match sending {
-        Ok(Sending::Sent(_, _)) => 1,
-        _ => 0,
-    }
-}
-
-// Have all of these feeds come to the end of the notices?
-fn all_at_end(cursors: &[usize], feeds: usize, end: usize) -> bool
-    ensures { AtEnd result cursors.now feeds end }
-{
-    for feed in 0..feeds {
-        if cursor_at(cursors, feed) < end {
-            return false;
-        }
-    }
-    true
-}
-
-// Was the room told the end?
-fn is_end(polled: &Result<ReceivePoll<u64>, Refusal>) -> bool
-    ensures { result ≡ ends polled.now }
-{
-    match polled {
-        Ok(ReceivePoll::End) => true,
-        _ => false,
-    }
+    cursors: Vec<usize>,
 }
 
 impl<'a> Floor<'a> {
@@ -177,7 +123,7 @@ impl<'a> Floor<'a> {
         woken: &'a mut [u32],
         rooms: usize,
         feeds: u32,
-    ) -> Result<Floor<'a>, Refusal>
+    ) -> Result<Floor<'a>, Halt>
         ensures { IfOk result (λ f. (notices : List Notice) → Stands rooms feeds notices [] f) }
     {
         let memories = Memories {
@@ -190,67 +136,70 @@ impl<'a> Floor<'a> {
             channels,
             memories,
             book: Vec::new(heap),
-            cursors: [0; 32],
+            cursors: vec![in heap; 0; feeds as usize]?,
         })
     }
 
     // Polls the send of the feed's next notice.
     fn send_next(&mut self, notices: &[Notice], feed: usize) -> Result<Sending, Refusal>
-        ensures { (n v : ℕ) (sent : List Notice) → Stands n v notices.now sent self.old → Stands n v notices.now (sent_by result sent) self.new }
+        ensures { Sends notices.now result self.old self.new }
     {
-        if feed >= count(&self.cursors) {
+        let Some(&from) = self.cursors.get(feed) else {
             return Err(Refusal::Range);
-        }
-        let i = next_of(notices, feed, cursor_at(&self.cursors, feed));
-        if i >= notices.len() {
-            write_cursor(&mut self.cursors, feed, i);
+        };
+        let Some((i, notice)) = next_of(notices, feed, from) else {
+            self.cursors[feed] = notices.len();
             return Ok(Sending::Done);
-        }
-        let notice = notices[i];
+        };
+        let waker = Task::Feed(feed).waker();
         let polled = self
             .channels
-            .send_poll(&mut self.memories, notice.room, waker_of(feed), notice.id);
-        let sending = outcome(notice, polled);
-        write_cursor(&mut self.cursors, feed, i + step_of(&sending));
-        sending
+            .send_poll(&mut self.memories, notice.room, waker, notice.id);
+        let sending = Sending::of(notice, polled)?;
+        self.cursors[feed] = i + sending.step();
+        Ok(sending)
     }
 
-    // Polls a room, and books what it is given.
-    fn receive_next(&mut self, room: usize) -> Result<Result<ReceivePoll<u64>, Refusal>, AllocError>
-        ensures { OnOk result ((n v : ℕ) (notices sent : List Notice) → Stands n v notices sent self.old → Stands n v notices sent self.new) }
+    // Polls a room, and books what it is given. If that was the end, everything accepted there is in the book.
+    fn receive_next(&mut self, room: usize) -> Result<ReceivePoll<u64>, Halt>
+        ensures law { Drained (told_end result) room self.old self.new }
+        ensures places { self.new.cursors.items ≡ self.old.cursors.items }
     {
-        let polled = self.channels.receive_poll(
-            &mut self.memories,
-            room,
-            waker_of(room.saturating_add(32)),
-        );
-        let Some(id) = given(&polled) else {
-            return Ok(polled);
-        };
-        self.book.push(Delivery { room, id })?;
+        // first of all, so that nothing is taken out that can't be booked
+        self.book.reserve(1)?;
+        let waker = Task::Room(room).waker();
+        let polled = self.channels.receive_poll(&mut self.memories, room, waker)?;
+        if let ReceivePoll::Element(id, _) = polled {
+            self.book.push(Delivery { room, id }).unwrap();
+        }
         Ok(polled)
     }
 
-    // Polls a room, and tells whether that was the end: then everything accepted there is in the book.
-    fn drained(&mut self, room: usize) -> Result<bool, AllocError>
+    // Polls a room, and tells whether that was the end.
+    fn drained(&mut self, room: usize) -> Result<bool, Halt>
         ensures law { IfOk result (λ b. Drained b room self.old self.new) }
-        ensures places { self.new.cursors ≡ self.old.cursors }
+        ensures places { self.new.cursors.items ≡ self.old.cursors.items }
     {
-        let polled = self.channels.receive_poll(&mut self.memories, room, 0);
-        if is_end(&polled) {
-            return Ok(true);
+        match self.receive_next(room) {
+            Ok(polled) => Ok(matches!(polled, ReceivePoll::End)),
+            // it has more, or it would have to wait
+            Err(Halt::Refused(_)) => Ok(false),
+            Err(halt) => Err(halt),
         }
-        if let Some(id) = given(&polled) {
-            self.book.push(Delivery { room, id })?;
-        }
-        Ok(false)
+    }
+
+    // Have all feeds come to the end of the notices?
+    fn all_at_end(&self, end: usize) -> bool
+        ensures { IsTrue result ↔ EachIndex self.now.cursors.items (λ feed. end ≤ slice_index self.now.cursors.items feed) }
+    {
+        self.cursors.iter().all(|cursor| *cursor >= end)
     }
 
     // Was everything delivered: has each feed come to its end, and is each room told the end?
-    fn settle(&mut self, notices: &[Notice], rooms: usize, feeds: usize) -> Result<bool, AllocError>
-        ensures { IfOk result (λ b. b ≡ true → ((n v : ℕ) (sent : List Notice) → Stands n v notices.now sent self.old → Delivered rooms feeds notices.now self.new.book.items)) }
+    fn settle(&mut self, notices: &[Notice], rooms: usize) -> Result<bool, Halt>
+        ensures { IfOk result (λ b. b ≡ true → Settles rooms notices.now self.old self.new) }
     {
-        if !all_at_end(&self.cursors, feeds, notices.len()) {
+        if !self.all_at_end(notices.len()) {
             return Ok(false);
         }
         for room in 0..rooms {
@@ -268,18 +217,15 @@ impl<'a> Floor<'a> {
         self.book.as_slice()
     }
 
-    // The task that was named at this place of the woken list.
-    fn woken(&self, i: usize) -> usize {
-        if i < self.memories.woken.list.len() {
-            self.memories.woken.list[i] as usize
-        } else {
-            usize::MAX
-        }
+    // The wakers that a call named, so many from the front of the woken list.
+    fn woken(&self, named: usize) -> &[u32] {
+        let list = &self.memories.woken.list;
+        &list[..named.min(list.len())]
     }
 
     // Closes one sender of a room.
     fn leave(&mut self, room: usize) -> Result<usize, Refusal>
-        ensures { (n v : ℕ) (notices sent : List Notice) → Stands n v notices sent self.old → Stands n v notices sent self.new }
+        ensures { Keeps self.old self.new }
     {
         self.channels.close_sender(&mut self.memories, room)
     }

@@ -1,6 +1,6 @@
 // A small delivery from beginning to end.
 use super::*;
-use crate::run::deliver;
+use crate::run::{Halt, deliver};
 use std::test::Fail;
 
 const fn notice(feed: usize, room: usize, id: u64) -> Notice {
@@ -40,5 +40,29 @@ fn delivers(rt: HostRuntime) -> Result<(), Fail> {
         }
     }
     assert_eq!(rt; digits, 101220);
+    Ok(())
+}
+
+// No woken list: no channels are opened.
+#[test]
+fn halts(rt: HostRuntime) -> Result<(), Fail> {
+    let mut elements = [Cell::new()];
+    let mut entries = [Cell::new()];
+    let mut woken = [0u32; 0];
+    let Err(halt) = deliver(
+        rt.alloc(),
+        &mut elements,
+        &mut entries,
+        &mut woken,
+        &[notice(0, 0, 10)],
+        1,
+        1,
+        &rt,
+    ) else {
+        return Err(Fail::new("delivered"));
+    };
+    assert!(rt; matches!(halt, Halt::Refused(Refusal::Lengths)));
+    let text = halt.to_string(rt.alloc())?;
+    assert_eq!(rt; text.as_str(), "a call was refused");
     Ok(())
 }

@@ -1,14 +1,26 @@
-use Rattle.distributor_channels.specs.Calls.{seen}
-use Rattle.std.proofs.Common.{vec_items}
-use Rattle.executor.proofs.Booking.{sound_given, sound_ungiven}
+use Rattle.std.proofs.Common.{◌≡◌, ℕ, ◌++◌, ◌∷◌, [], Ok, vec_items, refl, append-nil, rules}
+use Rattle.distributor_channels.specs.declared.ReceivePoll.{ReceivePoll}
+use Rattle.distributor_channels.specs.declared.ReceivePoll.TheVariants.{Element, End, Wait}
+use Rattle.executor.proofs.Booking.{drained, delivers}
 use Rattle.executor.proofs.Floor.receive_next.Goals as goal
 
-pub returns-in_default : goal.returns-in_default
-returns-in_default c = λ n v notices sent s.
-    sound_ungiven n v notices sent c.args.self.now.channels (seen c.args.self.now.memories) (vec_items c.args.self.now.book) c.args.self.now.cursors s
-    c.args.room c.waker_of.result _ _ c.receive_poll-polled.result c.receive_poll-polled.ensures.law c.receive_poll-polled.ensures.history c.in_default.ensures
+delivers_none : (k : ℕ) (p : ReceivePoll ℕ) → ((x y : ℕ) → p ≡ Element x y → ⊥) → delivers k (Ok p) ≡ []
+delivers_none k (Element x y) ne = absurd (ne x y refl)
+delivers_none k Wait ne = refl
+delivers_none k End ne = refl
 
-pub returns : goal.returns
-returns c = λ n v notices sent s.
-    sound_given n v notices sent c.args.self.now.channels (seen c.args.self.now.memories) (vec_items c.args.self.now.book) c.args.self.now.cursors s
-    c.args.room c.waker_of.result _ _ c.receive_poll-polled.result c.receive_poll-polled.ensures.law c.receive_poll-polled.ensures.history c.in-Some.id c.in-Some.ensures _ c.in_ok-push.ensures.items
+pub returns-in-Element-clause-law : goal.returns-in-Element-clause-law
+returns-in-Element-clause-law c = λ n v notices sent s.
+    let e : vec_items c.push.new.self ≡ vec_items c.args.self.now.book ++ record { room = c.args.room; id = c.in-Element.id } ∷ [] = search rules in
+    drained s c.args.room c.waker-waker.result _ _ (Ok (Element c.in-Element.id c.in-Element.field-1))
+    (rw c.in-Element.is at c.in_ok-polled.ensures.law) (rw c.in-Element.is at c.in_ok-polled.ensures.history) _ e
+
+pub returns-in_default : goal.returns-in_default
+returns-in_default c = record {
+  law = λ n v notices sent s.
+      let book = vec_items c.args.self.now.book in
+      let e : vec_items c.reserve.new.self ≡ book ++ delivers c.args.room (Ok c.in_ok-polled.polled) =
+      rw (delivers_none c.args.room c.in_ok-polled.polled c.in_default.not-Element, append-nil book) c.reserve.ensures.items in
+      drained s c.args.room c.waker-waker.result _ _ (Ok c.in_ok-polled.polled) c.in_ok-polled.ensures.law c.in_ok-polled.ensures.history _ e;
+  places = refl;
+}

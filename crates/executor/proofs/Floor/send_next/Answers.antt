@@ -1,24 +1,29 @@
-use Rattle.std.proofs.Common.{◌+◌, ◌<◌, length, get_or, vec_items, ap, ◌∙◌, arith}
-use Rattle.std.proofs.lemmas.List.{get_or_default}
-use Rattle.distributor_channels.specs.Calls.{seen}
-use Rattle.executor.specs.Books.{advance, Next}
-use Rattle.executor.proofs.Booking.{sound_done, sound_sent}
+use Rattle.std.proofs.Common.{◌≡◌, slice_get, vec_items, Some, rules, arith}
+use Rattle.std.proofs.lemmas.Option.{slice_get_read}
+use Rattle.executor.proofs.Booking.{next_found, not_sent, sound_done, sound_sent, sound_refused}
 use Rattle.executor.proofs.Floor.send_next.Goals as goal
 
-pub returns-then-i-notices : goal.returns-then-i-notices
-returns-then-i-notices c = λ n v sent s.
-    let me = c.args.self.now in let ns = c.args.notices.now in let i = c.next_of-i.result in
-    let inside : c.args.feed < length me.cursors = let e = c.count.ensures in let h = c.if-feed-count.false in omega arith in
-    let next : Next ns c.args.feed (get_or me.cursors c.args.feed 0) i = rw c.cursor_at.ensures at c.next_of-i.ensures in
-    rw c.write_cursor.ensures (sound_done n v ns sent me.channels (seen me.memories) (vec_items me.book) me.cursors s c.args.feed inside i next)
+pub returns-in_default-next_of : goal.returns-in_default-next_of
+returns-in_default-next_of c = λ n v sent s.
+    let at : slice_get (vec_items c.args.self.now.cursors) c.args.feed ≡ Some c.in-Some.field-0.now = search (rules, slice_get_read) in
+    sound_done s c.args.feed _ at c.in_default-next_of.ensures
+
+pub overflow_add-i : goal.overflow_add-i
+overflow_add-i c =
+    let next = next_found c.args.feed _ c.args.notices.now (Some (c.in-Some-next_of.i, c.in-Some-next_of.notice)) c.in-Some-next_of.ensures in
+    let h = next.within in
+    omega (arith, c.step.ensures.one)
+
+pub returns-in_err-sending : goal.returns-in_err-sending
+returns-in_err-sending c = λ n v sent s.
+    let at : slice_get (vec_items c.args.self.now.cursors) c.args.feed ≡ Some c.in-Some.field-0.now = search (rules, slice_get_read) in
+    let p = c.send_poll-polled in
+    rw (not_sent c.from_residual.result sent c.from_residual.ensures.0)
+    (sound_refused s c.args.feed _ at _ c.in-Some-next_of.notice c.in-Some-next_of.ensures _ _ _ p.result p.ensures.law p.ensures.history _ c.in_err-sending.ensures)
 
 pub returns : goal.returns
 returns c = λ n v sent s.
-    let me = c.args.self.now in let ns = c.args.notices.now in let i = c.next_of-i.result in
-    let inside : c.args.feed < length me.cursors = let e = c.count.ensures in let h = c.if-feed-count.false in omega arith in
-    let next : Next ns c.args.feed (get_or me.cursors c.args.feed 0) i = rw c.cursor_at.ensures at c.next_of-i.ensures in
-    let eo = c.outcome-sending.ensures in
-    let es = c.step_of.ensures in
-    rw (eo, c.write_cursor-2.ensures)
-    (sound_sent n v ns sent me.channels (seen me.memories) (vec_items me.book) me.cursors s c.args.feed inside i next c.if-i-notices.false _ (get_or_default ns i _ _ c.if-i-notices.false) _
-    _ _ _ c.send_poll-polled.result c.send_poll-polled.ensures.law c.send_poll-polled.ensures.history (ap (λ k. i + k) (es ∙ ap advance eo)))
+    let at : slice_get (vec_items c.args.self.now.cursors) c.args.feed ≡ Some c.in-Some.field-0.now = search (rules, slice_get_read) in
+    let p = c.send_poll-polled in
+    rw c.step.ensures.law
+    (sound_sent s c.args.feed _ at _ c.in-Some-next_of.notice c.in-Some-next_of.ensures _ _ _ p.result p.ensures.law p.ensures.history _ c.in_ok-sending.ensures)
