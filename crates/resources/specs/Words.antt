@@ -1,6 +1,6 @@
 -- A notice or a receipt is its fields: that they fit has one proof. Assumes nothing.
 use Rattle.std.specs.Prelude.{◌≡◌, ℕ, ◌%◌, ◌^◌, ◌<◌, List, take, ◌≢◌, slice_index}
-use Rattle.std.proofs.Common.{sym, ap, subst, ◌∙◌, lit<, mod-eq_of_lt}
+use Rattle.std.proofs.Common.{sym, ap, ◌∙◌, lit<, mod-eq_of_lt}
 use mathlib.Core.HLevel.{×_prop, ×₃_prop, is_prop→PathP}
 use Rattle.std.proofs.Math.Bridge.{le_prop}
 use Rattle.std.proofs.lemmas.List.{get_or-take}

@@ -1,5 +1,5 @@
 // A store that fails on purpose: at listed calls the device fails, and every other call is passed on to the store below.
-ghost use Rattle.std.specs.Prelude.{◌≡◌, ◌<◌, ◌≤◌, cond, length, MatchResult};
+ghost use Rattle.std.specs.Prelude.{◌≡◌, ◌<◌, ◌≤◌, if◌then◌else◌, length, MatchResult};
 ghost use Rattle.resources.specs.declared.cause.Cause.TheVariants.{Device};
 ghost use Rattle.refusal.specs.declared.Refusal.TheVariants.{Range};
 ghost use Rattle.resources.specs.Files.{CreateLawful, create_after, AppendLawful, append_after, FinishLawful, finish_after, ReadLawful, read_place, remove_after, create as creating, append as appending, finish as finishing, read as reading, remove as removing, numbered, finished, done};
@@ -22,7 +22,7 @@ pub struct Tripping<'a, S> {
 }
 
 impl<'a, S> Tripping<'a, S> {
-    // The calls are counted from 1. More than 64 listed calls are refused, and the store is handed back.
+    // The calls are counted from 1. More than 64 listed calls are refused, and the store is handed back: a pair with the reason, since a struct of the two would say no more.
     pub fn new(below: S, trips: &'a [u64]) -> Result<Tripping<'a, S>, (S, Refusal)>
         ensures { MatchResult result (λ t. (t.below ≡ below) × (t.trips.now ≡ trips.now) × (t.calls ≡ 0) × (length trips.now ≤ 64)) (λ e. (e.0 ≡ below) × (e.1 ≡ Range) × (64 < length trips.now)) }
     {
@@ -45,7 +45,7 @@ impl<'a, S> Tripping<'a, S> {
 
     // Counts a call, and fails where it is listed.
     fn count(&mut self) -> Result<(), Cause>
-        ensures answer { result ≡ cond (listed (next_call self.old.calls) self.old.trips.now) (Err Device) (Ok tt) }
+        ensures answer { result ≡ (if listed (next_call self.old.calls) self.old.trips.now then Err Device else Ok tt) }
         ensures calls { self.new.calls ≡ next_call self.old.calls }
         ensures trips { self.new.trips.now ≡ self.old.trips.now }
         ensures below { self.new.below ≡ self.old.below }
