@@ -1,16 +1,14 @@
 -- A notice or a receipt is its fields: that they fit has one proof. Assumes nothing.
-use Rattle.std.specs.Prelude.{◌≡◌, ℕ, ◌%◌, ◌^◌, ◌<◌, List, take, ◌≢◌, slice_index}
-use Rattle.std.proofs.Common.{sym, ap, ◌∙◌, lit<, mod-eq_of_lt}
+use Rattle.std.specs.Prelude.{◌≡◌, ◌^◌, ◌<◌}
+use Rattle.std.proofs.Common.{ap, mod-eq_of_lt}
 use mathlib.Core.HLevel.{×_prop, ×₃_prop, is_prop→PathP}
 use Rattle.std.proofs.Math.Bridge.{le_prop}
-use Rattle.std.proofs.lemmas.List.{get_or-take}
-use Rattle.std.proofs.lemmas.Bool.{cond-true, cond-false, eq-eqb, ne_eqb}
 use Rattle.resources.specs.declared.notice.Notice.{Notice}
 use Rattle.resources.specs.declared.receipt.Seen.{Seen}
 use Rattle.resources.specs.declared.receipt.Left.{Left}
 use Rattle.resources.specs.declared.receipt.Receipt.{Receipt}
 use Rattle.resources.specs.declared.receipt.Receipt.TheVariants as kinds
-use Rattle.resources.specs.Payloads.{notice_words, notice_read, receipt_words, receipt_read, seen_read, left_read}
+use Rattle.resources.specs.Payloads.{notice_words, notice_read, receipt_words, receipt_read}
 
 pub notice_is : (a b : Notice) → a.id ≡ b.id → a.rows ≡ b.rows → a.size ≡ b.size → a ≡ b
 notice_is a b p q r = λ i. record {
