@@ -6,12 +6,13 @@ use resources::notice::Notice;
 use resources::payload::{Payload, round_trip};
 use resources::receipt::{Left, Receipt, Seen};
 use resources::reservation::{Change, LIMIT_MOST, Reservation, TenantChange, apply};
-use resources::runs::{Answer, Batch, Call, run};
+use resources::runs::{Answer, Call, run};
 use resources::store::Store;
 use resources::tenant::Tenant;
 use resources::tenants::Tenants;
 use resources::tripping::Tripping;
 use std::alloc::Global;
+use std::array;
 use std::test::Fail;
 use stores::block::BlockStore;
 use stores::log::LogStore;
@@ -29,9 +30,7 @@ fn payloads(rt: HostRuntime) {
     assert!(rt;
         place[0] == 18446744073709551615 && place[1] == 4294967295 && place[2] == 7 && place[3] == 9
     );
-    assert!(rt;
-        <Notice as Payload>::width() == 3 && notice.rows() == 4294967295 && notice.size() == 7
-    );
+    assert!(rt; Notice::WORDS == 3 && notice.rows() == 4294967295 && notice.size() == 7);
     place[1] = 4294967296 + 5;
     assert!(rt;
         <Notice as Payload>::read(&place).rows == 5,
@@ -43,12 +42,7 @@ fn payloads(rt: HostRuntime) {
     assert!(rt; place[0] == 0 && place[1] == 1 && place[2] == 2);
     assert_eq!(rt; round_trip(&left, &mut place), left);
     assert!(rt; place[0] == 1 && place[1] == 3 && place[2] == 0);
-    assert!(rt;
-        seen.size() == 16
-            && left.size() == 8
-            && seen.rows() == 1
-            && <Receipt as Payload>::width() == 3
-    );
+    assert!(rt; seen.size() == 16 && left.size() == 8 && seen.rows() == 1 && Receipt::WORDS == 3);
     place[0] = 77;
     assert_eq!(rt;
         <Receipt as Payload>::read(&place),
@@ -62,6 +56,31 @@ fn numbers(rt: HostRuntime) {
     assert!(rt;
         Cause::NoSpace.number() == 1 && Cause::Misuse.number() == 2 && Cause::Device.number() == 3
     );
+}
+
+#[test]
+fn texts(rt: HostRuntime) -> Result<(), Fail> {
+    let heap = rt.alloc();
+    let notice = Notice {
+        id: 101,
+        rows: 3,
+        size: 20,
+    };
+    assert_eq!(rt;
+        notice.to_string(heap)?.as_str(),
+        "notice 101 (rows 3, size 20)"
+    );
+    let seen = Receipt::Seen(Seen {
+        person: 7,
+        line: 101,
+    });
+    assert_eq!(rt; seen.to_string(heap)?.as_str(), "person 7 saw line 101");
+    let left = Receipt::Left(Left { person: 8 });
+    assert_eq!(rt; left.to_string(heap)?.as_str(), "person 8 left");
+    assert_eq!(rt; Cause::NoSpace.to_string(heap)?.as_str(), "cause 1");
+    assert_eq!(rt; Cause::Misuse.to_string(heap)?.as_str(), "cause 2");
+    assert_eq!(rt; Cause::Device.to_string(heap)?.as_str(), "cause 3");
+    Ok(())
 }
 
 #[test]
@@ -403,29 +422,20 @@ fn runs(rt: HostRuntime) -> Result<(), Fail> {
     let mut store = log_store(rt.alloc(), 100)?;
     let calls = [
         Call::Create,
-        Call::Append(
-            1,
-            Batch {
-                words: [4; 64],
-                length: 2,
-            },
-        ),
+        Call::Append(1, &[4; 64][..2]),
         Call::Read(1, 0),
         Call::Finish(1),
         Call::Remove(1),
         Call::Read(1, 0),
     ];
-    let mut answers = [Answer::Done; 6];
+    let mut answers: [_; 6] = array::from_fn(|_| Ok(Answer::Done));
     run(&mut store, &calls, &mut answers);
     assert!(rt;
-        matches!(answers[0], Answer::Number(1))
-            && matches!(answers[5], Answer::Failed(Cause::Misuse))
+        matches!(answers[0], Ok(Answer::Number(1))) && matches!(answers[5], Err(Cause::Misuse))
     );
-    let Answer::Words(batch) = answers[2] else {
+    let Ok(Answer::Words(words)) = &answers[2] else {
         return Err(Fail::new("a batch"));
     };
-    assert!(rt;
-        batch.length == 2 && batch.words[0] == 4 && batch.words[1] == 4 && batch.words[2] == 0
-    );
+    assert!(rt; words.len() == 2 && words[0] == 4 && words[1] == 4 && words.get(2).is_none());
     Ok(())
 }
