@@ -8,24 +8,23 @@ use Rattle.stores.specs.declared.node.Node.{Node}
 use Rattle.stores.specs.declared.node.Entry.{Entry}
 use Rattle.stores.specs.declared.block.BlockStore.{BlockStore}
 use Rattle.resources.specs.Files.{put, extended}
-use Rattle.stores.specs.Chains.{node, blank_node, entry, linked, shifted_nodes, shifted_entries, jump_of, Short, Cleared}
+use Rattle.stores.specs.Chains.{node, blank_node, entry, linked, shifted_nodes, shifted_entries, jump_of, Short, Cleared, Order}
 use Rattle.stores.specs.Stores.{files_of, files_in, load_of, block_val, block_files, block_load, blocks}
-use Rattle.stores.proofs.Orders.{Order, order_of}
 use Rattle.stores.proofs.Layings.{laid_here, laid_below, laid_above, stretch_same}
 use Rattle.stores.proofs.Tables.{all_nodes}
 use Rattle.stores.proofs.Filing.{append_files}
 
 -- a batch finds space exactly while a block is free
 pub space_none : (s : BlockStore) → (entry s.dir.entries 0).len ≡ 0 → ltb (block_load s).batches (blocks s) ≡ false
-space_none s z = le-ltb _ _ (omega (arith, all_nodes _ _ _ _ (block_val (vec_items s.memory.words)) (order_of s.dir)))
+space_none s z = le-ltb _ _ (omega (arith, all_nodes _ _ _ _ (block_val (vec_items s.memory.words)) s.dir.order))
 
 pub space_some : (s : BlockStore) → 0 < (entry s.dir.entries 0).len → ltb (block_load s).batches (blocks s) ≡ true
-space_some s h = lt-ltb _ _ (omega (arith, all_nodes _ _ _ _ (block_val (vec_items s.memory.words)) (order_of s.dir)))
+space_some s h = lt-ltb _ _ (omega (arith, all_nodes _ _ _ _ (block_val (vec_items s.memory.words)) s.dir.order))
 
 -- the first free block lies in the memory
 pub block_in : (s : BlockStore) (n : ℕ) → 0 < (entry s.dir.entries 0).len → n ≤ 64 → (entry s.dir.entries 0).last * 64 + n ≤ length (vec_items s.memory.words)
 block_in s n h l =
-    let b = s.dir.lastin 0 (omega (arith, s.dir.table), h) in
+    let b = (s.dir.order.sound.lasts 0 (omega (arith, s.dir.order.table)) h).0 in
     omega (arith, s.room)
 
 -- other blocks keep their words
@@ -48,7 +47,7 @@ module _ (s : BlockStore) (i n : ℕ) (ws m : List ℕ) (lo : 0 < i) (le : i ≤
       let w = vec_items s.memory.words in
       let b = (entry s.dir.entries 0).last in
       let fits = block_in s (length ws) some short in
-      append_files (vec_items s.dir.nodes) s.dir.entries s.dir.count s.dir.next (order_of s.dir) (block_val w) (block_val m) i 0 (length ws) ws lo le some
+      append_files (vec_items s.dir.nodes) s.dir.entries s.dir.count s.dir.next s.dir.order (block_val w) (block_val m) i 0 (length ws) ws lo le some
       (λ c l h. ap (λ (x : List ℕ). take (node (vec_items s.dir.nodes) c).length (drop (c * 64) x)) laid ∙ block_other w b c _ ws fits short (s.short c l) h)
       (ap (λ (x : List ℕ). take (length ws) (drop (b * 64) x)) laid ∙ laid_here w (b * 64) ws (length ws) refl fits)
       ps qs n nodes entries number next o'
@@ -70,7 +69,7 @@ short_set ns b d h l m c lc =
 pub shift_keeps : (s : BlockStore) (i : ℕ) (ws m : List ℕ) → 0 < (entry s.dir.entries 0).len → length ws ≤ 64 → length m ≡ length (vec_items s.memory.words) → (ps : List Node) →
     ps ≡ shifted_nodes (vec_items s.dir.nodes) s.dir.entries 0 i (jump_of (vec_items s.dir.nodes) s.dir.entries 0 i) 0 (length ws) → (length ps * 64 ≤ length m) × (Short ps × Unit {0})
 shift_keeps s i ws m some short long ps e =
-    let b = s.dir.lastin 0 (omega (arith, s.dir.table), some) in
+    let b = (s.dir.order.sound.lasts 0 (omega (arith, s.dir.order.table)) some).0 in
     let ns = vec_items s.dir.nodes in
     let d = linked (entry s.dir.entries i) (entry s.dir.entries 0).last (jump_of ns s.dir.entries 0 i) 0 (length ws) in
     let lp : length ps ≡ length ns = ap length e ∙ length-set ns _ d in

@@ -7,10 +7,9 @@ use Rattle.std.proofs.lemmas.List.Sums.{sum_by-set, sum_by-append, sum_by_push, 
 use Rattle.std.proofs.lemmas.Bool.{cases_eq, cases_lt, cond_both, ltb-true, cond-true, cond-false, lt-ltb, le-ltb}
 use Rattle.stores.specs.declared.node.Node.{Node}
 use Rattle.stores.specs.declared.node.Entry.{Entry}
-use Rattle.stores.specs.Chains.{node, entry, blank_entry, Owned, Lasts, Apart, Full, Sound, Numbers, closed, closed_up, spare, renewed, next_after, shifted_nodes, shifted_entries, jump_of, Cleared}
+use Rattle.stores.specs.Chains.{node, entry, blank_entry, Owned, Lasts, Apart, Full, Sound, Numbers, closed, closed_up, spare, renewed, next_after, shifted_nodes, shifted_entries, jump_of, Cleared, Order}
 use Rattle.stores.proofs.Chaining.{owner_entry, owned_from}
 use Rattle.stores.proofs.Shifting.{jump_ok, nodes_long, entries_long, node_here, node_other, number_same, live_same, walk_other}
-use Rattle.stores.proofs.Orders.{Order, sound_of, order_from}
 
 pub close_more_below : (old es : List Entry) (i j : ℕ) (e : Entry) → i ≤ j → ((k : ℕ) → k < i → entry es k ≡ entry old k) → (k : ℕ) → k < i → entry (set es j e) k ≡ entry old k
 close_more_below old es i j e le h k l = get_or-set_other es j k _ _ (omega arith) ∙ h k l
@@ -66,13 +65,13 @@ module _ (ns : List Node) (es : List Entry) (count next i : ℕ) (o : Order ns e
   ds = set es i (closed (entry es i))
 
   s : Sound ns es
-  s = sound_of ns es count next o
+  s = o.sound
 
   table : length es ≡ 257
-  table = o.1.1.1.1.1.1.1.1.1.1.0
+  table = o.table
 
   few : count ≤ 256
-  few = o.1.1.1.1.1.1.1.1.1.1.1.0
+  few = o.few
 
   li : i < length es
   li = omega (arith, table, few)
@@ -96,7 +95,7 @@ module _ (ns : List Node) (es : List Entry) (count next i : ℕ) (o : Order ns e
   long = length-set es i _
 
   apart : Apart ns ds
-  apart j k (lj, lk, h) = s.5 j k (omega (arith, long), omega (arith, long), sym (same_number j) ∙ h ∙ same_number k)
+  apart j k (lj, lk, h) = s.apart j k (omega (arith, long), omega (arith, long), sym (same_number j) ∙ h ∙ same_number k)
 
   owned : Owned ns ds
   owned b l =
@@ -106,20 +105,25 @@ module _ (ns : List Node) (es : List Entry) (count next i : ℕ) (o : Order ns e
   lasts : Lasts ns ds
   lasts j l h =
       let e = same_last j in
-      let a = s.3 j (omega (arith, long)) (omega (arith, same_len j)) in
+      let a = s.lasts j (omega (arith, long)) (omega (arith, same_len j)) in
       rw e (a.0, a.1 ∙ sym (same_number j), a.2 ∙ sym (same_len j))
 
   full : Full ns ds
-  full = omega (arith, sum_by-set (λ (e : Entry). e.len) es i (closed (entry es i)) blank_entry li, s.6)
+  full = omega (arith, sum_by-set (λ (e : Entry). e.len) es i (closed (entry es i)) blank_entry li, s.full)
 
   pub finish_order : Order ns ds count next
   finish_order =
-      order_from ns ds count next (owned, s.1, s.2, lasts, s.4, apart, full)
-      o.1.1.1.1.1.1.1.1.1.0 (long ∙ table) few o.1.1.1.1.1.1.1.1.1.1.1.1.0
-      (same_number 0 ∙ o.1.1.1.1.1.1.1.1.1.1.1.1.1.0)
-      (λ j l. subst (λ (x : ℕ). x < next) (sym (same_number j)) (o.1.1.1.1.1.1.1.1.1.1.1.1.1.1.0 j (omega (arith, long))))
-      (λ j h. rw (entry_kept j (omega (arith, h.0))) (o.1.1.1.1.1.1.1.1.1.1.1.1.1.1.1.0 j (h.0, omega (arith, long, h.1))))
-      o.1.1.1.1.1.1.1.1.1.1.1.1.1.1.1.1.0
+      record {
+        sound = record { owned = owned; backed = s.backed; jumps = s.jumps; lasts = lasts; single = s.single; apart = apart; full = full };
+        small = o.small;
+        table = long ∙ table;
+        few = few;
+        ends = o.ends;
+        free = same_number 0 ∙ o.free;
+        numbers = λ j l. subst (λ (x : ℕ). x < next) (sym (same_number j)) (o.numbers j (omega (arith, long)));
+        unused = λ j h. rw (entry_kept j (omega (arith, h.0))) (o.unused j (h.0, omega (arith, long, h.1)));
+        idle = o.idle;
+      }
 
 -- an empty entry goes out of use
 module _ (ns : List Node) (es : List Entry) (count next i : ℕ) (o : Order ns es count next) (low : 0 < i) (le : i ≤ count) (empty : (entry es i).len ≡ 0) where
@@ -130,16 +134,16 @@ module _ (ns : List Node) (es : List Entry) (count next i : ℕ) (o : Order ns e
   ts = closed_up es i v
 
   s' : Sound ns es
-  s' = sound_of ns es count next o
+  s' = o.sound
 
   table' : length es ≡ 257
-  table' = o.1.1.1.1.1.1.1.1.1.1.0
+  table' = o.table
 
   few' : count ≤ 256
-  few' = o.1.1.1.1.1.1.1.1.1.1.1.0
+  few' = o.few
 
   numbers' : Numbers es next
-  numbers' = o.1.1.1.1.1.1.1.1.1.1.1.1.1.1.0
+  numbers' = o.numbers
 
   li' : i < 257
   li' = omega (arith, few')
@@ -184,7 +188,7 @@ module _ (ns : List Node) (es : List Entry) (count next i : ℕ) (o : Order ns e
   new_number k l h =
       cond_both (ltb next (2 ^ 32)) next (entry es i).number (λ u. (entry es k).number ≡ u → ⊥)
       (λ _ e. omega (arith, numbers' k l))
-      (λ _ e. h (s'.5 k i (l, omega (arith, table'), e)))
+      (λ _ e. h (s'.apart k i (l, omega (arith, table'), e)))
 
   number_low : v < next_after next
   number_low =
@@ -197,7 +201,7 @@ module _ (ns : List Node) (es : List Entry) (count next i : ℕ) (o : Order ns e
   next_more = cond_both (ltb next (2 ^ 32)) (next + 1) next (λ u. next ≤ u) (λ _. omega arith) (λ _. omega arith)
 
   next_most : next_after next ≤ 2 ^ 32
-  next_most = cond_both (ltb next (2 ^ 32)) (next + 1) next (λ u. u ≤ 2 ^ 32) (λ t. omega (arith, ltb-true next (2 ^ 32) t)) (λ _. o.1.1.1.1.1.1.1.1.1.1.1.1.0)
+  next_most = cond_both (ltb next (2 ^ 32)) (next + 1) next (λ u. u ≤ 2 ^ 32) (λ t. omega (arith, ltb-true next (2 ^ 32) t)) (λ _. o.ends)
 
   apart' : Apart ns ts
   apart' j k (lj, lk, h) =
@@ -209,7 +213,7 @@ module _ (ns : List Node) (es : List Entry) (count next i : ℕ) (o : Order ns e
       ⊎_elim
       (λ (bk : k < 256).
       let c = whence k bk in
-      let e : a.0 ≡ c.0 = s'.5 _ _ (a.2, c.2, sym (ap num a.3) ∙ h ∙ ap num c.3) in
+      let e : a.0 ≡ c.0 = s'.apart _ _ (a.2, c.2, sym (ap num a.3) ∙ h ∙ ap num c.3) in
       stays_one j k c.0 (subst (Stays j) e a.1) c.1)
       (λ (bk : 256 ≤ k).
       let ek : k ≡ 256 = omega arith in
@@ -238,7 +242,7 @@ module _ (ns : List Node) (es : List Entry) (count next i : ℕ) (o : Order ns e
       ⊎_elim
       (λ (b : j < 256).
       let a = whence j b in
-      rw a.3 (s'.3 a.0 a.2 (subst (λ (x : Entry). 0 < x.len) a.3 h)))
+      rw a.3 (s'.lasts a.0 a.2 (subst (λ (x : Entry). 0 < x.len) a.3 h)))
       (λ (b : 256 ≤ j).
       let e : j ≡ 256 = omega arith in
       let z : (entry ts j).len ≡ 0 = ap (λ (x : ℕ). (entry ts x).len) e ∙ ap (λ (x : Entry). x.len) (closed_last es i v table' li') in
@@ -258,20 +262,25 @@ module _ (ns : List Node) (es : List Entry) (count next i : ℕ) (o : Order ns e
   pub drop_order : Order ns ts (count - 1) (next_after next)
   drop_order =
       let lt = long_closed in
-      order_from ns ts (count - 1) (next_after next) (owned', s'.1, s'.2, lasts', s'.4, apart', sum-closed (λ e. e.len) empty refl ∙ s'.6)
-      o.1.1.1.1.1.1.1.1.1.0 long_closed (omega (arith, few')) next_most
-      (ap (λ (x : Entry). x.number) (closed_below es i v 0 table' li' low) ∙ o.1.1.1.1.1.1.1.1.1.1.1.1.1.0)
-      (λ j l.
-      ⊎_elim
-      (λ (b : j < 256). let a = whence j b in rw a.3 (omega (arith, numbers' a.0 a.2, next_more)))
-      (λ (b : 256 ≤ j). let e : j ≡ 256 = omega arith in rw (e, closed_last es i v table' li') number_low)
-      (cases_lt j 256))
-      (λ j h.
-      ⊎_elim
-      (λ (b : j < 256). rw (closed_above es i v j table' li' (omega (arith, h.0)) b) (o.1.1.1.1.1.1.1.1.1.1.1.1.1.1.1.0 (j + 1) (omega (arith, h.0), omega (arith, table'))))
-      (λ (b : 256 ≤ j). let e : j ≡ 256 = omega (arith, h.1) in rw (e, closed_last es i v table' li') (refl, refl))
-      (cases_lt j 256))
-      o.1.1.1.1.1.1.1.1.1.1.1.1.1.1.1.1.0
+      record {
+        sound = record { owned = owned'; backed = s'.backed; jumps = s'.jumps; lasts = lasts'; single = s'.single; apart = apart'; full = sum-closed (λ e. e.len) empty refl ∙ s'.full };
+        small = o.small;
+        table = long_closed;
+        few = omega (arith, few');
+        ends = next_most;
+        free = ap (λ (x : Entry). x.number) (closed_below es i v 0 table' li' low) ∙ o.free;
+        numbers = λ j l.
+            ⊎_elim
+            (λ (b : j < 256). let a = whence j b in rw a.3 (omega (arith, numbers' a.0 a.2, next_more)))
+            (λ (b : 256 ≤ j). let e : j ≡ 256 = omega arith in rw (e, closed_last es i v table' li') number_low)
+            (cases_lt j 256);
+        unused = λ j h.
+            ⊎_elim
+            (λ (b : j < 256). rw (closed_above es i v j table' li' (omega (arith, h.0)) b) (o.unused (j + 1) (omega (arith, h.0), omega (arith, table'))))
+            (λ (b : 256 ≤ j). let e : j ≡ 256 = omega (arith, h.1) in rw (e, closed_last es i v table' li') (refl, refl))
+            (cases_lt j 256);
+        idle = o.idle;
+      }
 
 -- nothing was lost yet
 pub cleared_none : (ns : List Node) (es : List Entry) (i : ℕ) → Cleared ns es i ns es
@@ -281,9 +290,9 @@ cleared_none ns es i = record { nodes = refl; entries = refl; number = λ j. ref
 pub cleared_more : (ns : List Node) (es : List Entry) (i : ℕ) (ms : List Node) (ds : List Entry) (count next : ℕ) → Cleared ns es i ms ds → Order ms ds count next → i < 257 → 0 < i → 0 < (entry ds i).len →
     Cleared ns es i (shifted_nodes ms ds i 0 (jump_of ms ds i 0) 0 0) (shifted_entries ms ds i 0)
 cleared_more ns es i ms ds count next h o li low some =
-    let s = sound_of ms ds count next o in
+    let s = o.sound in
     let j = jump_of ms ds i 0 in
-    let table = o.1.1.1.1.1.1.1.1.1.1.0 in
+    let table = o.table in
     let lf : i < length ds = omega arith in
     let lt : 0 < length ds = omega arith in
     let ne : i ≡ 0 → ⊥ = λ e. omega arith in

@@ -8,11 +8,10 @@ use Rattle.std.proofs.lemmas.Bool.{cases_eq, cond-true, cond-false, eq-eqb, ne_e
 use Rattle.stores.specs.declared.node.Node.{Node}
 use Rattle.stores.specs.declared.node.Entry.{Entry}
 use Rattle.resources.specs.Files.{File, Files, put, live_at, extended, shut, batch_at}
-use Rattle.stores.specs.Chains.{node, entry, held, walk, linked, closed, closed_up, shifted_nodes, shifted_entries, jump_of, Cleared, Located, Sound}
+use Rattle.stores.specs.Chains.{node, entry, held, walk, linked, closed, closed_up, shifted_nodes, shifted_entries, jump_of, Cleared, Located, Sound, Order}
 use Rattle.stores.specs.Stores.{file_of, files_of, files_in, Load, load_of, without, restarts}
 use Rattle.stores.proofs.Chaining.{length-walk, walk_at}
 use Rattle.stores.proofs.Shifting.{jump_ok, node_here, node_other, number_same, live_same, walk_other, walk_to}
-use Rattle.stores.proofs.Orders.{Order, sound_of}
 use Rattle.stores.proofs.Entries.{entry_closed, entry_kept}
 use Rattle.stores.proofs.Tables.{find_at, find_none, files_put, load_files, load_batches, files_drop, load_drop}
 
@@ -48,22 +47,22 @@ module _ (ns : List Node) (es : List Entry) (count next : ℕ) (o : Order ns es 
 
   pub located_some : (n k b : ℕ) → Located ns es count n k (Some b) → batch_at (files_in ns v es count n) k ≡ Some (v b (node ns b))
   located_some n k b (i, lo, le, e, lk, lb, ob, pb) =
-      let s = sound_of ns es count next o in
+      let s = o.sound in
       let val : ℕ → List ℕ = λ c. v c (node ns c) in
       let w = held ns v (entry es i) in
-      let lw : length w ≡ (entry es i).len = length-walk ns s.1 (λ c. (node ns c).back) val (entry es i).last (entry es i).len in
-      let li : i < length es = omega (arith, o.1.1.1.1.1.1.1.1.1.1.0, o.1.1.1.1.1.1.1.1.1.1.1.0) in
+      let lw : length w ≡ (entry es i).len = length-walk ns s.backed (λ c. (node ns c).back) val (entry es i).last (entry es i).len in
+      let li : i < length es = omega (arith, o.table, o.few) in
       ap (λ (f : Option File). batch_at f k) (file_at i n lo le e)
       ∙ slice_get-get_or w k [] (omega arith)
-      ∙ ap Some (walk_at ns s.1 s.4 val (entry es i).number k b lb (ob ∙ sym e) pb (entry es i).len (entry es i).last (s.3 i li) lk)
+      ∙ ap Some (walk_at ns s.backed s.single val (entry es i).number k b lb (ob ∙ sym e) pb (entry es i).len (entry es i).last (s.lasts i li) lk)
 
   pub located_none : (n k : ℕ) → Located ns es count n k None → batch_at (files_in ns v es count n) k ≡ None
   located_none n k h =
       ⊎_elim
       (λ r.
-      let s = sound_of ns es count next o in
+      let s = o.sound in
       let w = held ns v (entry es r.0) in
-      let lw : length w ≡ (entry es r.0).len = length-walk ns s.1 (λ c. (node ns c).back) (λ c. v c (node ns c)) (entry es r.0).last (entry es r.0).len in
+      let lw : length w ≡ (entry es r.0).len = length-walk ns s.backed (λ c. (node ns c).back) (λ c. v c (node ns c)) (entry es r.0).last (entry es r.0).len in
       ap (λ (f : Option File). batch_at f k) (file_at r.0 n r.1 r.2 r.3) ∙ slice_get_past w k (omega (arith, h r.0 r.1 r.2 r.3)))
       (λ g. ap (λ (f : Option File). batch_at f k) (find_none ns es count next o v n g))
       (present es n count)
@@ -80,10 +79,10 @@ module _ (ns : List Node) (es : List Entry) (count next : ℕ) (o : Order ns es 
   ds = shifted_entries ns es 0 i
 
   s : Sound ns es
-  s = sound_of ns es count next o
+  s = o.sound
 
   li : i < length es
-  li = omega (arith, o.1.1.1.1.1.1.1.1.1.1.0, o.1.1.1.1.1.1.1.1.1.1.1.0)
+  li = omega (arith, o.table, o.few)
 
   lz : 0 < length es
   lz = omega (arith, li)
@@ -102,7 +101,7 @@ module _ (ns : List Node) (es : List Entry) (count next : ℕ) (o : Order ns es 
 
   others : (j : ℕ) → 0 < j → j ≤ count → (j ≡ i → ⊥) → file_of ms v' (entry ds j) ≡ file_of ns v (entry es j)
   others j lj le' h =
-      let w = walk_other ns es s 0 i (jump_of ns es 0 i) start m lz li ne some (jump_ok ns es s 0 i li) val val' kept j (omega (arith, o.1.1.1.1.1.1.1.1.1.1.0, o.1.1.1.1.1.1.1.1.1.1.1.0)) (omega arith) h in
+      let w = walk_other ns es s 0 i (jump_of ns es 0 i) start m lz li ne some (jump_ok ns es s 0 i li) val val' kept j (omega (arith, o.table, o.few)) (omega arith) h in
       let l = live_same ns es s 0 i (jump_of ns es 0 i) start m lz li ne some (jump_ok ns es s 0 i li) j in
       ap (λ (b : Bool). record { live = b; batches = held ms v' (entry ds j) }) l ∙ ap (λ (x : List (List ℕ)). record { live = (entry es j).live; batches = x }) w
 
@@ -171,7 +170,7 @@ remove_files ns es count next o v i n lo le g ms ds next₁ o₁ cl empty ps qs 
     let number = cl.number in
     let others : (j : ℕ) → 0 < j → j ≤ count → (j ≡ i → ⊥) → file_of ms v (entry ds j) ≡ file_of ns v (entry es j) = λ j a b u.
     ap (λ (x : Bool). record { live = x; batches = held ms v (entry ds j) }) (cl.live j)
-    ∙ ap (λ (x : List (List ℕ)). record { live = (entry es j).live; batches = x }) (cl.others v j a (omega (arith, o.1.1.1.1.1.1.1.1.1.1.0, o.1.1.1.1.1.1.1.1.1.1.1.0)) u) in
+    ∙ ap (λ (x : List (List ℕ)). record { live = (entry es j).live; batches = x }) (cl.others v j a (omega (arith, o.table, o.few)) u) in
     let oa : Order ms qs count' next₂ = subst (λ (x : List Node). Order x qs count' next₂) e o₂ in
     let ob : Order ms (closed_up ds i k) count' next₂ = subst (λ (x : List Entry). Order ms x count' next₂) f oa in
     let oc : Order ms (closed_up ds i k) (count - 1) next₂ = subst (λ (x : ℕ). Order ms (closed_up ds i k) x next₂) h ob in

@@ -8,10 +8,9 @@ use Rattle.stores.specs.declared.node.Node.{Node}
 use Rattle.stores.specs.declared.node.Entry.{Entry}
 use Rattle.stores.specs.declared.log.LogStore.{LogStore}
 use Rattle.resources.specs.Files.{File, put, extended}
-use Rattle.stores.specs.Chains.{node, blank_node, entry, linked, shifted_nodes, shifted_entries, jump_of, Below, Marked, Short, Cleared}
+use Rattle.stores.specs.Chains.{node, blank_node, entry, linked, shifted_nodes, shifted_entries, jump_of, Below, Marked, Short, Cleared, Order}
 use Rattle.stores.specs.Stores.{files_of, files_in, Load, load_of, without, log_val, log_files, log_load, log_words, recorded, zeroed, restarts}
 use Rattle.stores.proofs.Chaining.{owner_entry}
-use Rattle.stores.proofs.Orders.{Order, order_of, sound_of}
 use Rattle.stores.proofs.Shifting.{entry_from, jump_ok}
 use Rattle.stores.proofs.Blocking.{short_set}
 use Rattle.stores.proofs.Layings.{laid_here, laid_below, stretch_same}
@@ -78,7 +77,7 @@ module _ (s : LogStore) (i n : ℕ) (ws m : List ℕ) (lo : 0 < i) (le : i ≤ s
   log_append count' next e o' =
       let w = log_words s in
       let ns = vec_items s.dir.nodes in
-      let r = append_files ns s.dir.entries s.dir.count s.dir.next (order_of s.dir) (log_val w) (log_val m) i (s.end + 2) (length ws) ws lo le free
+      let r = append_files ns s.dir.entries s.dir.count s.dir.next s.dir.order (log_val w) (log_val m) i (s.end + 2) (length ws) ws lo le free
       (λ c l h. ap (λ (x : List ℕ). take (node ns c).length (drop (node ns c).start x)) laid ∙ record_stretch w s.end n ws fits (node ns c).start (node ns c).length (s.low c l))
       (ap (λ (x : List ℕ). take (length ws) (drop (s.end + 2) x)) laid ∙ record_batch w s.end n ws fits)
       ps qs n nodes entries number next (subst (λ (x : ℕ). Order ps qs x next) e o') in
@@ -90,13 +89,13 @@ module _ (s : LogStore) (i n : ℕ) (ws m : List ℕ) (lo : 0 < i) (le : i ≤ s
       let ns = vec_items s.dir.nodes in
       let es = s.dir.entries in
       let b = (entry es 0).last in
-      let lb = s.dir.lastin 0 (omega (arith, s.dir.table), free) in
+      let lb = (s.dir.order.sound.lasts 0 (omega (arith, s.dir.order.table)) free).0 in
       let d = linked (entry es i) b (jump_of ns es 0 i) (s.end + 2) (length ws) in
       let lm : length m ≡ length w = ap length laid ∙ long_recorded w s.end n ws fits in
       let lp : length ps ≡ length ns = ap length nodes ∙ length-set ns b d in
-      let sd = sound_of _ _ _ _ (order_of s.dir) in
-      let li : i < length es = omega (arith, s.dir.table, s.dir.few) in
-      let lz : 0 < length es = omega (arith, s.dir.table) in
+      let sd = s.dir.order.sound in
+      let li : i < length es = omega (arith, s.dir.order.table, s.dir.order.few) in
+      let lz : 0 < length es = omega (arith, s.dir.order.table) in
       let ez : (entry qs 0).len ≡ (entry es 0).len - 1 = ap (λ (x : List Entry). (entry x 0).len) entries
       ∙ ap (λ (x : Entry). x.len) (entry_from ns es sd 0 i (jump_of ns es 0 i) (s.end + 2) (length ws) lz li (λ u. omega arith) free (jump_ok ns es sd 0 i li)) in
       let low : Below (set ns b d) (s.end + 2 + length ws) = λ c l.
@@ -155,7 +154,7 @@ pub remove-keeps : (s : LogStore) (i n : ℕ) (ms ps : List Node) (ds qs : List 
 remove-keeps s i n ms ps ds qs cl e count' next' o' f =
     let a = clear_low s i ms ps ds cl e in
     let v = log_val (log_words s) in
-    let before = all_nodes _ _ _ _ v (order_of s.dir) in
+    let before = all_nodes _ _ _ _ v s.dir.order in
     let after = all_nodes ps qs count' next' v o' in
     let l = less (log_load s) (log_files s n) in
     let g : (load_of (files_of ps v qs count')).batches ≡ (without (log_load s) (log_files s n)).batches = ap (λ (x : Load). x.batches) f in
@@ -164,10 +163,10 @@ remove-keeps s i n ms ps ds qs cl e count' next' o' f =
 -- without files every node is free
 all_free : (ns : List Node) (es : List Entry) (next : ℕ) → Order ns es 0 next → (b : ℕ) → b < length ns → (node ns b).owner ≡ 0
 all_free ns es next o b l =
-    let r = owner_entry ns es (sound_of ns es 0 next o) b l in
+    let r = owner_entry ns es (o).sound b l in
     ⊎_elim
-    (λ (z : r.0 ≡ 0). sym r.2 ∙ ap (λ (k : ℕ). (entry es k).number) z ∙ o.1.1.1.1.1.1.1.1.1.1.1.1.1.0)
-    (λ (z : r.0 ≡ 0 → ⊥). let u = (o.1.1.1.1.1.1.1.1.1.1.1.1.1.1.1.0 r.0 (omega arith, r.1)).0 in absurd (omega (arith, r.3)))
+    (λ (z : r.0 ≡ 0). sym r.2 ∙ ap (λ (k : ℕ). (entry es k).number) z ∙ o.free)
+    (λ (z : r.0 ≡ 0 → ⊥). let u = (o.unused r.0 (omega arith, r.1)).0 in absurd (omega (arith, r.3)))
     (cases_eq r.0 0)
 
 pub restart_keeps : (s : LogStore) (i : ℕ) (ms ps : List Node) (ds qs : List Entry) → Cleared (vec_items s.dir.nodes) s.dir.entries i ms ds → ps ≡ ms → (count' next' : ℕ) → Order ps qs count' next' → count' ≡ 0 →
@@ -177,7 +176,7 @@ restart_keeps s i ms ps ds qs cl e count' next' o' z m f =
     let o : Order ps qs 0 next' = subst (λ (x : ℕ). Order ps qs x next') z o' in
     let lm : length m ≡ length (log_words s) = ap length f ∙ length-set (log_words s) 0 0 in
     let all : (entry qs 0).len + 0 ≡ length ps = all_nodes ps qs 0 next' (log_val m) o in
-    let low : Below ps 0 = λ b l. let u = o.1.1.1.1.1.1.1.1.1.1.1.1.1.1.1.1.0 b (l, all_free ps qs next' o b l) in omega (arith, u.0, u.1) in
+    let low : Below ps 0 = λ b l. let u = o.idle b (l, all_free ps qs next' o b l) in omega (arith, u.0, u.1) in
     let mark : Marked m 0 = λ l. ap (λ (x : List ℕ). get_or x 0 0) f ∙ get_or-set_same (log_words s) 0 0 0 (omega arith) in
     (omega arith, (low, (a.2, (mark, (omega (arith, s.enough, a.0), (omega arith, tt))))))
 
@@ -185,8 +184,8 @@ restart_keeps s i ms ps ds qs cl e count' next' o' z m f =
 module _ (s : LogStore) (i n : ℕ) (lo : 0 < i) (le : i ≤ s.dir.count) (g : (entry s.dir.entries i).number ≡ n) where
   which : restarts (log_load s) (log_files s n) ≡ eqb s.dir.count 1
   which =
-      ap (restarts (log_load s)) (file_at _ _ _ _ (order_of s.dir) (log_val (log_words s)) i n lo le g)
-      ∙ ap (λ (x : ℕ). eqb x 1) (files_long _ _ _ _ (order_of s.dir) (log_val (log_words s)))
+      ap (restarts (log_load s)) (file_at _ _ _ _ s.dir.order (log_val (log_words s)) i n lo le g)
+      ∙ ap (λ (x : ℕ). eqb x 1) (files_long _ _ _ _ s.dir.order (log_val (log_words s)))
 
   pub restart_yes : (count' : ℕ) → count' ≡ s.dir.count - 1 → count' ≡ 0 → restarts (log_load s) (log_files s n) ≡ true
   restart_yes count' e z = which ∙ eq-eqb s.dir.count 1 (omega arith)

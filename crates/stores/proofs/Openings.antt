@@ -6,9 +6,8 @@ use Rattle.std.proofs.lemmas.List.Sums.{sum_by-set}
 use Rattle.std.proofs.lemmas.Bool.{cases_eq, cases_lt}
 use Rattle.stores.specs.declared.node.Node.{Node}
 use Rattle.stores.specs.declared.node.Entry.{Entry}
-use Rattle.stores.specs.Chains.{node, entry, blank_entry, free_node, spare, Blank, Sound, Apart}
+use Rattle.stores.specs.Chains.{node, entry, blank_entry, free_node, spare, Blank, Sound, Apart, Order}
 use Rattle.stores.proofs.Chaining.{owned_from}
-use Rattle.stores.proofs.Orders.{Order, order_from}
 
 pub freed_more : (ns : List Node) (b : ℕ) (d : Node) → b < length ns → d ≡ free_node b → ((k : ℕ) → k < b → node ns k ≡ free_node k) → (k : ℕ) → k < b + 1 → node (set ns b d) k ≡ free_node k
 freed_more ns b d l e h k lk =
@@ -77,28 +76,36 @@ module _ (ns : List Node) (es : List Entry) (small : length ns ≤ 262144) (blan
 
   sound : Sound ns es
   sound =
-      let tb = blank.table in (
-        (λ b l. let e = free b l in owned_from es _ _ 0 apart (omega arith) (ap (λ (x : Entry). x.number) blank.free ∙ sym (ap (λ (x : Node). x.owner) e)) (rw (e, blank.free) l)),
-        (λ b l. let e = free b l in let k : b - 1 < length ns = omega arith in rw (e, free (b - 1) k) (k, refl, refl)),
-        (λ b l. let e = free b l in let k : b - 1 < length ns = omega arith in rw (e, free (b - 1) k) (k, refl, omega arith)),
-        (λ i l h.
+      let tb = blank.table in
+      record {
+        owned = λ b l. let e = free b l in owned_from es _ _ 0 apart (omega arith) (ap (λ (x : Entry). x.number) blank.free ∙ sym (ap (λ (x : Node). x.owner) e)) (rw (e, blank.free) l);
+        backed = λ b l. let e = free b l in let k : b - 1 < length ns = omega arith in rw (e, free (b - 1) k) (k, refl, refl);
+        jumps = λ b l. let e = free b l in let k : b - 1 < length ns = omega arith in rw (e, free (b - 1) k) (k, refl, omega arith);
+        lasts = λ i l h.
             let z = low i l h in
             let h0 : 0 < (entry es 0).len = subst (λ (x : ℕ). 0 < (entry es x).len) z h in
             let n0 : 0 < length ns = subst (λ (x : Entry). 0 < x.len) blank.free h0 in
             let k : length ns - 1 < length ns = omega arith in
-            rw (z, blank.free, free (length ns - 1) k) (k, refl, omega arith)),
-        (λ b c h. sym (ap (λ (x : Node). x.place) (free b h.0)) ∙ h.3 ∙ ap (λ (x : Node). x.place) (free c h.1)),
-        apart,
-        blank.total,
-      )
+            rw (z, blank.free, free (length ns - 1) k) (k, refl, omega arith);
+        single = λ b c h. sym (ap (λ (x : Node). x.place) (free b h.0)) ∙ h.3 ∙ ap (λ (x : Node). x.place) (free c h.1);
+        apart = apart;
+        full = blank.total;
+      }
 
   pub open_order : Order ns es 0 257
   open_order =
       let tb = blank.table in
-      order_from ns es 0 257 sound small tb (omega arith) (omega arith) (ap (λ (x : Entry). x.number) blank.free)
-      (λ i l. omega (arith, number_is i l))
-      (λ i h. rw (blank.files i h.0 (omega (arith, h.1))) (refl, refl))
-      (λ b h. rw (free b h.0) (refl, refl))
+      record {
+        sound = sound;
+        small = small;
+        table = tb;
+        few = omega arith;
+        ends = omega arith;
+        free = ap (λ (x : Entry). x.number) blank.free;
+        numbers = λ i l. omega (arith, number_is i l);
+        unused = λ i h. rw (blank.files i h.0 (omega (arith, h.1))) (refl, refl);
+        idle = λ b h. rw (free b h.0) (refl, refl);
+      }
 
 pub free_made : (b x : ℕ) → x ≡ b - 1 → ◌≡◌ {A = Node} (record { owner = 0; place = b; back = x; jump = x; start = 0; length = 0 }) (free_node b)
 free_made b x e = ap (λ (y : ℕ). record { owner = 0; place = b; back = y; jump = y; start = 0; length = 0 }) e

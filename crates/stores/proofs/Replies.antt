@@ -7,9 +7,8 @@ use Rattle.resources.specs.declared.cause.Cause.TheVariants.{NoSpace, Misuse}
 use Rattle.stores.specs.declared.node.Node.{Node}
 use Rattle.stores.specs.declared.node.Entry.{Entry}
 use Rattle.resources.specs.Files.{Files, live_at, length_ok, may_append, batch_at, CreateLawful, create_after, laid, create, append, finish, number, done, failed, numbered}
-use Rattle.stores.specs.Chains.{entry}
+use Rattle.stores.specs.Chains.{entry, Order}
 use Rattle.stores.specs.Stores.{files_of, files_in, Load, load_of, load_after, View, answer, read_reply}
-use Rattle.stores.proofs.Orders.{Order}
 use Rattle.stores.proofs.Tables.{files_long, files_create, load_create, new_none, new_above, new_below}
 
 module _ (ns : List Node) (es : List Entry) (count next : ℕ) (o : Order ns es count next) (v : ℕ → Node → List ℕ) (space : List ℕ → Bool) where

@@ -24,10 +24,10 @@ module _ (ns : List Node) (es : List Entry) (s : Sound ns es) (f t j start n : �
   ds = shifted_entries ns es f t
 
   moved : ((entry es f).last < length ns) × ((node ns (entry es f).last).owner ≡ (entry es f).number) × ((node ns (entry es f).last).place + 1 ≡ (entry es f).len)
-  moved = s.3 f lf some
+  moved = s.lasts f lf some
 
   numbers : (entry es f).number ≡ (entry es t).number → ⊥
-  numbers h = ne (s.5 f t (lf, lt, h))
+  numbers h = ne (s.apart f t (lf, lt, h))
 
   pub nodes_long : length ms ≡ length ns
   nodes_long = length-set ns _ _
@@ -68,13 +68,13 @@ module _ (ns : List Node) (es : List Entry) (s : Sound ns es) (f t j start n : �
   earlier : (c : ℕ) → c < length ns → (c ≡ (entry es f).last → ⊥) → (node ns c).owner ≡ (entry es f).number → (node ns c).place + 1 < (entry es f).len
   earlier c l h o =
       let p = place_below ns es s c f l lf o in
-      let q : (node ns c).place ≡ (node ns (entry es f).last).place → ⊥ = λ e. h (s.4 c _ (l, moved.0, o ∙ sym moved.1, e)) in
+      let q : (node ns c).place ≡ (node ns (entry es f).last).place → ⊥ = λ e. h (s.single c _ (l, moved.0, o ∙ sym moved.1, e)) in
       omega (arith, moved.2)
 
   apart : Apart [] ds
   apart i k (li, lk, h) =
       let e : length ds ≡ length es = entries_long in
-      s.5 i k (omega arith, omega arith, sym (number_same i) ∙ h ∙ number_same k)
+      s.apart i k (omega arith, omega arith, sym (number_same i) ∙ h ∙ number_same k)
 
   owned : Owned ms ds
   owned c l =
@@ -122,7 +122,7 @@ module _ (ns : List Node) (es : List Entry) (s : Sound ns es) (f t j start n : �
       (rw e moved.0, ap (λ (x : Node). x.owner) w, ap (λ (x : Node). x.place) w ∙ omega arith))
       (λ (z : (entry es t).len ≡ 0 → ⊥).
       let e : target ≡ (entry es t).last = cond-false _ _ _ (ne_eqb _ _ z) in
-      let a = s.3 t lt (omega arith) in
+      let a = s.lasts t lt (omega arith) in
       let w : node ms target ≡ node ns (entry es t).last = ap (node ms) e ∙ node_other _ (not_moved _ a.1) in
       (rw e a.0, ap (λ (x : Node). x.owner) w ∙ a.1, ap (λ (x : Node). x.place) w ∙ omega (arith, a.2)))
       (cases_eq (entry es t).len 0)
@@ -138,7 +138,7 @@ module _ (ns : List Node) (es : List Entry) (s : Sound ns es) (f t j start n : �
       rw w (omega (arith, k.0), k.1, k.2))
       (λ (h : c ≡ (entry es f).last → ⊥).
       let w : node ms c ≡ node ns c = node_other c h in
-      let k = s.1 c lc in
+      let k = s.backed c lc in
       let v : node ms (node ns c).back ≡ node ns (node ns c).back = node_other _ (before c _ lc h k.1 (omega (arith, k.2))) in
       rw (w, v) (omega (arith, k.0), k.1, k.2))
       (cases_eq c (entry es f).last)
@@ -167,7 +167,7 @@ module _ (ns : List Node) (es : List Entry) (s : Sound ns es) (f t j start n : �
       rw w (omega (arith, k.0), k.1, k.2))
       (λ (h : c ≡ (entry es f).last → ⊥).
       let w : node ms c ≡ node ns c = node_other c h in
-      let k = s.2 c lc in
+      let k = s.jumps c lc in
       let v : node ms (node ns c).jump ≡ node ns (node ns c).jump = node_other _ (before c _ lc h k.1 k.2) in
       rw (w, v) (omega (arith, k.0), k.1, k.2))
       (cases_eq c (entry es f).last)
@@ -178,7 +178,7 @@ module _ (ns : List Node) (es : List Entry) (s : Sound ns es) (f t j start n : �
       by_entry (λ i. i < length ds → 0 < (entry ds i).len → ((entry ds i).last < length ms) × ((node ms (entry ds i).last).owner ≡ (entry ds i).number) × ((node ms (entry ds i).last).place + 1 ≡ (entry ds i).len))
       (λ l h.
       let more : 0 < (entry es f).len - 1 = subst (λ (e : Entry). 0 < e.len) entry_from h in
-      let k = s.1 (entry es f).last moved.0 in
+      let k = s.backed (entry es f).last moved.0 in
       let d = (node ns (entry es f).last).back in
       let v : node ms d ≡ node ns d = node_other d (λ e. let q : (node ns d).place ≡ (node ns (entry es f).last).place = ap (λ (x : ℕ). (node ns x).place) e in omega (arith, k.2, moved.2)) in
       rw (entry_from, v) (omega (arith, k.0), k.1 ∙ moved.1, omega (arith, k.2, moved.2)))
@@ -186,8 +186,8 @@ module _ (ns : List Node) (es : List Entry) (s : Sound ns es) (f t j start n : �
       (λ i hf ht l h.
       let e = entry_other i hf ht in
       let li : i < length es = omega (arith, entries_long) in
-      let a = s.3 i li (subst (λ (x : Entry). 0 < x.len) e h) in
-      let v : node ms (entry es i).last ≡ node ns (entry es i).last = node_other _ (λ u. hf (s.5 i f (li, lf, sym a.1 ∙ ap (λ (x : ℕ). (node ns x).owner) u ∙ moved.1))) in
+      let a = s.lasts i li (subst (λ (x : Entry). 0 < x.len) e h) in
+      let v : node ms (entry es i).last ≡ node ns (entry es i).last = node_other _ (λ u. hf (s.apart i f (li, lf, sym a.1 ∙ ap (λ (x : ℕ). (node ns x).owner) u ∙ moved.1))) in
       rw (e, v) (omega (arith, a.0), a.1, a.2))
 
   -- the place that it takes was free
@@ -216,7 +216,7 @@ module _ (ns : List Node) (es : List Entry) (s : Sound ns es) (f t j start n : �
       absurd (new_place c lc' e (sym (ap (λ (x : Node). x.owner) v) ∙ o ∙ ap (λ (x : Node). x.owner) w) (sym (ap (λ (x : Node). x.place) v) ∙ p ∙ ap (λ (x : Node). x.place) w)))
       (λ (g : d ≡ (entry es f).last → ⊥).
       let w : node ms d ≡ node ns d = node_other d g in
-      s.4 c d (lc', ld', sym (ap (λ (x : Node). x.owner) v) ∙ o ∙ ap (λ (x : Node). x.owner) w, sym (ap (λ (x : Node). x.place) v) ∙ p ∙ ap (λ (x : Node). x.place) w))
+      s.single c d (lc', ld', sym (ap (λ (x : Node). x.owner) v) ∙ o ∙ ap (λ (x : Node). x.owner) w, sym (ap (λ (x : Node). x.place) v) ∙ p ∙ ap (λ (x : Node). x.place) w))
       (cases_eq d (entry es f).last))
       (cases_eq c (entry es f).last)
 
@@ -229,20 +229,20 @@ module _ (ns : List Node) (es : List Entry) (s : Sound ns es) (f t j start n : �
       let c = sum_by-set len (set es f e1) t (longer (entry es t) (entry es f).last) blank_entry lt' in
       let o : entry (set es f e1) t ≡ entry es t = get_or-set_other es f t _ _ (λ e. ne (sym e)) in
       let ol : (entry (set es f e1) t).len ≡ (entry es t).len = ap (λ (e : Entry). e.len) o in
-      let g = s.6 in
+      let g = s.full in
       let long = nodes_long in
       omega arith
 
   pub shift_sound : Sound ms ds
-  shift_sound = (owned, backed, jumps, lasts, single, apart, full)
+  shift_sound = record { owned = owned; backed = backed; jumps = jumps; lasts = lasts; single = single; apart = apart; full = full }
 
   module _ (val val' : ℕ → List ℕ) (same : (c : ℕ) → c < length ns → (c ≡ (entry es f).last → ⊥) → val' c ≡ val c) where
     begins_at : (i : ℕ) → i < length es → Begins ns (entry es i).number (entry es i).last (entry es i).len
-    begins_at i li h = s.3 i li h
+    begins_at i li h = s.lasts i li h
 
     here : (o m : ℕ) → ((c : ℕ) → c < length ns → (node ns c).owner ≡ o → (node ns c).place < m → c ≡ (entry es f).last → ⊥) →
         (k x : ℕ) → k ≤ m → Begins ns o x k → walk (λ c. (node ms c).back) val' x k ≡ walk (λ c. (node ns c).back) val x k
-    here o m out = walk_frame ns s.1 (λ c. (node ms c).back) val val' o m (λ c l oc pc. (ap (λ (x : Node). x.back) (node_other c (out c l oc pc)), same c l (out c l oc pc)))
+    here o m out = walk_frame ns s.backed (λ c. (node ms c).back) val val' o m (λ c l oc pc. (ap (λ (x : Node). x.back) (node_other c (out c l oc pc)), same c l (out c l oc pc)))
 
     -- the other chains stay
     pub walk_other : (i : ℕ) → i < length es → (i ≡ f → ⊥) → (i ≡ t → ⊥) →
@@ -250,7 +250,7 @@ module _ (ns : List Node) (es : List Entry) (s : Sound ns es) (f t j start n : �
     walk_other i li hf ht =
         let e = entry_other i hf ht in
         ap (λ (x : Entry). walk (λ c. (node ms c).back) val' x.last x.len) e
-        ∙ here (entry es i).number (entry es i).len (λ c l o p u. hf (s.5 i f (li, lf, sym o ∙ ap (λ (x : ℕ). (node ns x).owner) u ∙ moved.1))) _ _ (omega arith) (begins_at i li)
+        ∙ here (entry es i).number (entry es i).len (λ c l o p u. hf (s.apart i f (li, lf, sym o ∙ ap (λ (x : ℕ). (node ns x).owner) u ∙ moved.1))) _ _ (omega arith) (begins_at i li)
 
     -- one chain is longer by the node
     pub walk_to : walk (λ c. (node ms c).back) val' (entry ds t).last (entry ds t).len ≡ walk (λ c. (node ns c).back) val (entry es t).last (entry es t).len ++ val' (entry es f).last ∷ []
@@ -273,9 +273,9 @@ module _ (ns : List Node) (es : List Entry) (s : Sound ns es) (f t j start n : �
     walk_from =
         let m = (entry es f).len - 1 in
         let e : (entry es f).len ≡ suc m = omega arith in
-        let bs : Begins ns (entry es f).number (entry es f).last (suc m) = λ h. let a = s.3 f lf some in (a.0, a.1, a.2 ∙ e) in
+        let bs : Begins ns (entry es f).number (entry es f).last (suc m) = λ h. let a = s.lasts f lf some in (a.0, a.1, a.2 ∙ e) in
         let front = here (entry es f).number m (λ c l o p u. let q : (node ns c).place ≡ (node ns (entry es f).last).place = ap (λ (x : ℕ). (node ns x).place) u in omega (arith, moved.2)) m
-        (node ns (entry es f).last).back (omega arith) (begins_back ns s.1 (entry es f).number (entry es f).last m bs) in
+        (node ns (entry es f).last).back (omega arith) (begins_back ns s.backed (entry es f).number (entry es f).last m bs) in
         ap (λ (k : ℕ). walk (λ c. (node ns c).back) val (entry es f).last k) e
         ∙ ap (λ (ws : List (List ℕ)). ws ++ val (entry es f).last ∷ []) (sym front)
         ∙ sym (ap (λ (x : Entry). walk (λ c. (node ms c).back) val' x.last x.len ++ val (entry es f).last ∷ []) entry_from)
@@ -301,7 +301,7 @@ module _ (ns : List Node) (es : List Entry) (s : Sound ns es) (f t j start n : �
         ⊎_elim
         (λ (e : c ≡ (entry es f).last).
         let w : node ms c ≡ linked (entry es t) (entry es f).last j start n = ap (node ms) e ∙ node_here in
-        let z : t ≡ 0 = s.5 t 0 (lt, omega (arith, table), sym (ap (λ (x : Node). x.owner) w) ∙ o ∙ sym zero_is) in
+        let z : t ≡ 0 = s.apart t 0 (lt, omega (arith, table), sym (ap (λ (x : Node). x.owner) w) ∙ o ∙ sym zero_is) in
         rw w (plain z))
         (λ (h : c ≡ (entry es f).last → ⊥).
         let w : node ms c ≡ node ns c = node_other c h in
@@ -314,9 +314,9 @@ jump_ok ns es s f t lt = (
   (λ z. cond-true _ _ _ (eq-eqb _ _ z)),
   (λ h.
       let x = (entry es t).last in
-      let a = s.3 t lt h in
-      let k = s.2 x a.0 in
-      let m = s.2 (node ns x).jump k.0 in
+      let a = s.lasts t lt h in
+      let k = s.jumps x a.0 in
+      let m = s.jumps (node ns x).jump k.0 in
       let e : jump_of ns es f t ≡ far_of ns x = cond-false _ _ _ (ne_eqb _ _ (λ (z : (entry es t).len ≡ 0). omega arith)) in
       rw e (cond_both _ (node ns (node ns x).jump).jump x (λ y. (y < length ns) × ((node ns y).owner ≡ (entry es t).number) × ((node ns y).place + 1 ≤ (entry es t).len))
       (λ _. (m.0, m.1 ∙ k.1 ∙ a.1, omega (arith, m.2, k.2, a.2)))

@@ -9,10 +9,9 @@ use Rattle.std.proofs.lemmas.Bool.{cases_eq, cases_lt, eq-eqb, ne_eqb}
 use Rattle.stores.specs.declared.node.Node.{Node}
 use Rattle.stores.specs.declared.node.Entry.{Entry}
 use Rattle.resources.specs.Files.{File, put, fresh}
-use Rattle.stores.specs.Chains.{node, entry, blank_entry, Apart, held, walk, closed_up}
+use Rattle.stores.specs.Chains.{node, entry, blank_entry, Apart, held, walk, closed_up, Order}
 use Rattle.stores.specs.Stores.{in_use, numbers_of, file_of, files_of, lookup, files_in, load_of}
 use Rattle.stores.proofs.Lookups.{Hit, Missing, lookup_hit, lookup_missing, lookup_set, lookup_push, lookup_remove}
-use Rattle.stores.proofs.Orders.{Order}
 use Rattle.stores.proofs.Chaining.{length-walk}
 use Rattle.stores.proofs.Entries.{closed_below, closed_above}
 
@@ -27,13 +26,13 @@ missing_from (k ∷ ks) n h = (ne_eqb n k (λ u. h 0 (omega arith) (sym u)), mis
 
 module _ (ns : List Node) (es : List Entry) (count next : ℕ) (o : Order ns es count next) where
   table : length es ≡ 257
-  table = o.1.1.1.1.1.1.1.1.1.1.0
+  table = o.table
 
   few : count ≤ 256
-  few = o.1.1.1.1.1.1.1.1.1.1.1.0
+  few = o.few
 
   apart : Apart ns es
-  apart = o.1.1.1.1.1.1.1.0
+  apart = o.sound.apart
 
   pub in_use_long : length (in_use es count) ≡ count
   in_use_long = length-take count (drop 1 es) ∙ omega (arith, length-drop 1 es, table, few)
@@ -131,7 +130,7 @@ module _ (ns : List Node) (es : List Entry) (count next : ℕ) (o : Order ns es 
   -- an entry that is not in use is an empty open file
   new_file_lem : file_of ns v (entry es (count + 1)) ≡ fresh
   new_file_lem =
-      let u = o.1.1.1.1.1.1.1.1.1.1.1.1.1.1.1.0 (count + 1) (omega arith, omega (arith, table ns es count next o)) in
+      let u = o.unused (count + 1) (omega arith, omega (arith, table ns es count next o)) in
       ap (λ (b : Bool). record { live = b; batches = held ns v (entry es (count + 1)) }) u.1
       ∙ ap (λ (n : ℕ). record { live = true; batches = walk (λ c. (node ns c).back) (λ c. v c (node ns c)) (entry es (count + 1)).last n }) u.0
 
@@ -151,7 +150,7 @@ module _ (ns : List Node) (es : List Entry) (count next : ℕ) (o : Order ns es 
 
   pub new_above : 0 < (entry es (count + 1)).number
   new_above =
-      let z = o.1.1.1.1.1.1.1.1.1.1.1.1.1.0 in
+      let z = o.free in
       ⊎_elim
       (λ (h : 0 < (entry es (count + 1)).number). h)
       (λ (h : (entry es (count + 1)).number ≤ 0).
@@ -160,7 +159,7 @@ module _ (ns : List Node) (es : List Entry) (count next : ℕ) (o : Order ns es 
       (cases_lt 0 (entry es (count + 1)).number)
 
   pub new_below : (entry es (count + 1)).number < 2 ^ 32
-  new_below = omega (arith, o.1.1.1.1.1.1.1.1.1.1.1.1.1.1.0 (count + 1) (omega (arith, table ns es count next o)), o.1.1.1.1.1.1.1.1.1.1.1.1.0)
+  new_below = omega (arith, o.numbers (count + 1) (omega (arith, table ns es count next o)), o.ends)
 
   pub files_create : files_in ns v es (count + 1) ≡ put (files_in ns v es count) (entry es (count + 1)).number (Some fresh)
   files_create = fun_ext (λ m.
@@ -270,7 +269,7 @@ all_nodes ns es count next v o =
     let ldd = length-drop count (drop 1 es) in
     let z = sum_zero len blank_entry (drop count (drop 1 es)) (λ k l.
     let w = get_or-drop count (drop 1 es) k blank_entry ∙ get_or-drop 1 es (count + k) blank_entry in
-    ap len w ∙ (o.1.1.1.1.1.1.1.1.1.1.1.1.1.1.1.0 (1 + (count + k)) (omega arith, omega arith)).0) in
-    let t = sum_through (λ (f : File). length f.batches) (file_of ns v) len (λ e. length-walk ns o.1.0 (λ c. (node ns c).back) (λ c. v c (node ns c)) e.last e.len) (in_use es count) in
-    let f = o.1.1.1.1.1.1.1.1.0 in
+    ap len w ∙ (o.unused (1 + (count + k)) (omega arith, omega arith)).0) in
+    let t = sum_through (λ (f : File). length f.batches) (file_of ns v) len (λ e. length-walk ns o.sound.backed (λ c. (node ns c).back) (λ c. v c (node ns c)) e.last e.len) (in_use es count) in
+    let f = o.sound.full in
     omega arith

@@ -44,16 +44,6 @@ module _ (ns : List Node) (es : List Entry) where
   Lasts = (i : ℕ) → i < length es → 0 < (entry es i).len →
       ((entry es i).last < length ns) × ((node ns (entry es i).last).owner ≡ (entry es i).number) × ((node ns (entry es i).last).place + 1 ≡ (entry es i).len)
 
-  -- the same, one by one
-  abbrev pub LastIn : Type 0
-  LastIn = (i : ℕ) → (i < length es) × (0 < (entry es i).len) → (entry es i).last < length ns
-
-  abbrev pub LastOwner : Type 0
-  LastOwner = (i : ℕ) → (i < length es) × (0 < (entry es i).len) → (node ns (entry es i).last).owner ≡ (entry es i).number
-
-  abbrev pub LastPlace : Type 0
-  LastPlace = (i : ℕ) → (i < length es) × (0 < (entry es i).len) → (node ns (entry es i).last).place + 1 ≡ (entry es i).len
-
   -- no two nodes have one place of one chain
   abbrev pub Single : Type 0
   Single = (b c : ℕ) → (b < length ns) × (c < length ns) × ((node ns b).owner ≡ (node ns c).owner) × ((node ns b).place ≡ (node ns c).place) → b ≡ c
@@ -66,9 +56,15 @@ module _ (ns : List Node) (es : List Entry) where
   abbrev pub Full : Type 0
   Full = sum_by (λ e. e.len) es ≡ length ns
 
-  -- the chains are in good order
-  abbrev pub Sound : Type 0
-  Sound = Owned × Backed × Jumps × Lasts × Single × Apart × Full
+-- the chains are in good order
+pub record Sound (ns : List Node) (es : List Entry) : Type 0 where
+  pub owned : Owned ns es
+  pub backed : Backed ns es
+  pub jumps : Jumps ns es
+  pub lasts : Lasts ns es
+  pub single : Single ns es
+  pub apart : Apart ns es
+  pub full : Full ns es
 
 -- the entry without its last node, whose node before is x
 abbrev pub shorter : Entry → ℕ → Entry
@@ -108,6 +104,18 @@ Unused es count = (i : ℕ) → (count < i) × (i < length es) → ((entry es i)
 -- what is free has no words
 abbrev pub Idle : List Node → Type 0
 Idle ns = (b : ℕ) → (b < length ns) × ((node ns b).owner ≡ 0) → ((node ns b).start ≡ 0) × ((node ns b).length ≡ 0)
+
+-- what a directory keeps, with `count` files and `next` for the next new number
+pub record Order (ns : List Node) (es : List Entry) (count next : ℕ) : Type 0 where
+  pub sound : Sound ns es
+  pub small : length ns ≤ 262144
+  pub table : length es ≡ 257
+  pub few : count ≤ 256
+  pub ends : next ≤ 2 ^ 32
+  pub free : (entry es 0).number ≡ 0
+  pub numbers : Numbers es next
+  pub unused : Unused es count
+  pub idle : Idle ns
 
 -- no batch has more than 64 words
 abbrev pub Short : List Node → Type 0

@@ -1,7 +1,6 @@
 -- The file goes; or there was none.
 use Rattle.std.proofs.Common.{length, vec_items, refl, ap, ◌∙◌, arith}
 use Rattle.stores.specs.Stores.{block_val}
-use Rattle.stores.proofs.Orders.{order_of}
 use Rattle.stores.proofs.Filing.{remove_files_is, remove-none}
 use Rattle.stores.proofs.blocks.BlockStoreStore.remove.Goals as goal
 
@@ -13,13 +12,13 @@ returns-then-i-gt0 c =
     let k = c.clear.ensures in
     let d = c.drop_entry.new.self in
     let e = c.drop_entry.ensures in
-    let r = remove_files_is _ _ _ _ (order_of s.dir) (block_val (vec_items s.memory.words)) c.seek-i.result c.args.file pos c.seek-i.ensures.within (c.seek-i.ensures.found pos)
-    (vec_items a.nodes) a.entries a.count a.next (order_of a) k.cleared k.empty k.rest.0
-    (vec_items d.nodes) d.entries d.count _ d.next e.rest.1 e.entries e.rest.0 (order_of d) in
+    let r = remove_files_is _ _ _ _ s.dir.order (block_val (vec_items s.memory.words)) c.seek-i.result c.args.file pos c.seek-i.ensures.within (c.seek-i.ensures.found pos)
+    (vec_items a.nodes) a.entries a.count a.next a.order k.cleared k.empty k.rest.0
+    (vec_items d.nodes) d.entries d.count _ d.next e.rest.1 e.entries e.rest.0 d.order in
     record { after = r.0; exact = record { reply = refl; load = r.1; size = ap length e.rest.1 ∙ k.cleared.nodes } }
 
 pub returns-else-i-gt0 : goal.returns-else-i-gt0
 returns-else-i-gt0 c =
     let s = c.args.self.now in
-    let r = remove-none _ _ _ _ (order_of s.dir) (block_val (vec_items s.memory.words)) c.args.file (c.seek-i.ensures.none (omega (arith, c.if-i-gt0.false))) in
+    let r = remove-none _ _ _ _ s.dir.order (block_val (vec_items s.memory.words)) c.args.file (c.seek-i.ensures.none (omega (arith, c.if-i-gt0.false))) in
     record { after = r.0; exact = record { reply = refl; load = r.1; size = refl } }

@@ -11,7 +11,7 @@ returns-then-k-file c j lo le e =
     let d = c.args.self.now in
     let i = c.seek-i.result in
     let pos : 0 < i = omega (arith, c.if-i-eq0.false) in
-    let same : j ≡ i = d.apart j i (omega (arith, d.table, d.few), omega (arith, d.table, d.few, c.seek-i.ensures.within), e ∙ sym (c.seek-i.ensures.found pos)) in
+    let same : j ≡ i = d.order.sound.apart j i (omega (arith, d.order.table, d.order.few), omega (arith, d.order.table, d.order.few, c.seek-i.ensures.within), e ∙ sym (c.seek-i.ensures.found pos)) in
     let h : (entry d.entries i).len ≤ c.args.batch = c.if-k-file.true in
     subst (λ (x : ℕ). (entry d.entries x).len ≤ c.args.batch) (sym same) h
 
@@ -19,16 +19,17 @@ pub find-requires : goal.find-requires
 find-requires c =
     let d = c.args.self.now in
     let i = c.seek-i.result in
-    let li : i < length d.entries = omega (arith, d.table, d.few, c.seek-i.ensures.within) in
+    let li : i < length d.entries = omega (arith, d.order.table, d.order.few, c.seek-i.ensures.within) in
     let some : 0 < (entry d.entries i).len = omega (arith, c.if-k-file.false) in
-    (d.lastin i (li, some), omega (arith, d.lastplace i (li, some), c.if-k-file.false))
+    let a = d.order.sound.lasts i li some in
+    (a.0, omega (arith, a.2, c.if-k-file.false))
 
 pub returns : goal.returns
 returns c =
     let d = c.args.self.now in
     let i = c.seek-i.result in
     let pos : 0 < i = omega (arith, c.if-i-eq0.false) in
-    let li : i < length d.entries = omega (arith, d.table, d.few, c.seek-i.ensures.within) in
+    let li : i < length d.entries = omega (arith, d.order.table, d.order.few, c.seek-i.ensures.within) in
     let some : 0 < (entry d.entries i).len = omega (arith, c.if-k-file.false) in
     let f = c.find.ensures in
-    (i, pos, c.seek-i.ensures.within, c.seek-i.ensures.found pos, c.if-k-file.false, f.0, f.1 ∙ d.lastowner i (li, some) ∙ c.seek-i.ensures.found pos, f.2)
+    (i, pos, c.seek-i.ensures.within, c.seek-i.ensures.found pos, c.if-k-file.false, f.0, f.1 ∙ (d.order.sound.lasts i li some).1 ∙ c.seek-i.ensures.found pos, f.2)
