@@ -1,11 +1,15 @@
 -- Entries by number, and what a chain holds. Assumes nothing.
 use Rattle.std.proofs.Common.{◌≡◌, ℕ, zero, suc, ◌+◌, ◌-◌, ◌<◌, ◌≤◌, true, false, eqb, List, [], ◌∷◌, ◌++◌, length, get_or, sym, refl, ap, ◌∙◌, subst, ⊎_elim, arith}
 use native.Mathlib.Nat.{suc_inj}
-use Rattle.std.proofs.lemmas.List.{get_or_append_left, get_or_push, length_push}
+use Rattle.std.proofs.lemmas.List.{get_or_read, get_or_append_left, get_or_push, length_push}
 use Rattle.std.proofs.lemmas.Bool.{eq-eqb, ne_eqb, cond-true, cond-false, cases_eq, eqb-true, cases_Bool}
 use Rattle.stores.specs.declared.node.Node.{Node}
 use Rattle.stores.specs.declared.node.Entry.{Entry}
-use Rattle.stores.specs.Chains.{node, entry, len_of, walk, Apart, Sound}
+use Rattle.stores.specs.Chains.{node, entry, blank_node, len_of, walk, Apart, Sound}
+
+-- a node that was read
+pub node_read : (ns : List Node) {b : ℕ} {x : Node} → b < length ns → x ≡ get_or ns b x → x ≡ node ns b
+node_read ns {b} {x} l e = get_or_read ns b x l e blank_node
 
 -- apart entries, the first taken away
 apart_rest : (e : Entry) (es : List Entry) → Apart [] (e ∷ es) → Apart [] es
@@ -31,7 +35,7 @@ len_of_some (e ∷ es) n l =
     (suc r.0, omega (arith, r.1), r.2))
     (cases_Bool (eqb e.number n))
 
-module _ (ns : List Node) (es : List Entry) (s : Sound ns es) where
+module _ {ns : List Node} {es : List Entry} (s : Sound ns es) where
   -- the entry of a node
   pub owner_entry : (b : ℕ) → b < length ns → (i : ℕ) × (i < length es) × ((entry es i).number ≡ (node ns b).owner) × ((node ns b).place < (entry es i).len)
   owner_entry b l =

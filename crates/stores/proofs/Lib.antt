@@ -1,6 +1,5 @@
 pub mod Chaining
 pub mod Shifting
-pub mod Orders
 pub mod Entries
 pub mod Openings
 pub mod Layings

@@ -7,10 +7,12 @@
 #![tactic(auto)]
 
 pub mod block;
-pub mod blocks;
-pub mod chains;
 pub(crate) mod directory;
 pub mod log;
-pub mod logs;
 pub(crate) mod memory;
 pub mod node;
+
+// The bounds of the stores.
+pub mod blocks {
+    pub use crate::directory::STORE_WORDS;
+}

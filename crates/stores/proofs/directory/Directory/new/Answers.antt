@@ -1,8 +1,21 @@
 -- Every node is free, and no entry is in use.
-use Rattle.std.proofs.Common.{vec_items, ◌∙◌}
+use Rattle.std.proofs.Common.{◌≤◌, ◌/◌, length, vec_items, ◌∙◌, arith}
+use Rattle.std.proofs.Math.Nat.{div-le_self}
+use Rattle.std.proofs.Math.Nat.{div-mul-le_self}
+use Rattle.std.proofs.Math.Nat.{not-suc-le_self}
+use Rattle.std.proofs.lemmas.Nat.{ones_le_self}
+use Rattle.std.proofs.Math.Nat.{mul-div-le}
+use Rattle.std.proofs.Math.Nat.{div_self}
+use Rattle.std.proofs.Math.Nat.{div-le_of_le-mul}
+use Rattle.std.proofs.Math.Nat.{div-lt_self}
+use Rattle.std.proofs.lemmas.Nat.{le-div}
+use Rattle.std.proofs.Math.Nat.{le-div_iff_mul-le}
+use Rattle.std.proofs.Math.Nat.{div-eq_of_lt-le}
+use Rattle.std.specs.Int.{div_ceil}  -- `x / y`, rounded up
 use Rattle.stores.proofs.Openings.{open_order_is}
 use Rattle.stores.proofs.directory.Directory.new.Goals as goal
 
 pub invariant_of-result : goal.invariant_of-result
 invariant_of-result c =
-    record { order = open_order_is (vec_items c.args.nodes) (vec_items c.free_all.new.nodes) c.blank_table-entries.result c.requires c.len.result (c.len.ensures ∙ c.free_all.new.nodes.ok.0) c.free_all.ensures.long c.blank_table-entries.ensures c.free_all.ensures.free }
+    let small : length (vec_items c.args.nodes) ≤ 262144 = omega (arith, c.if-words-gt-STORE_WORDS.false, c.if-len-words.false, c.len.ensures, c.args.nodes.ok.0, div-le_self c.args.words c.args.each) in
+    record { order = open_order_is (vec_items c.args.nodes) (vec_items c.free_all.new.nodes) c.blank_table-entries.result small c.len-2.result (c.len-2.ensures ∙ c.free_all.new.nodes.ok.0) c.free_all.ensures.long c.blank_table-entries.ensures c.free_all.ensures.free }
