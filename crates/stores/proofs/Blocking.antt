@@ -8,7 +8,7 @@ use Rattle.stores.specs.declared.node.Node.{Node}
 use Rattle.stores.specs.declared.node.Entry.{Entry}
 use Rattle.stores.specs.declared.block.BlockStore.{BlockStore}
 use Rattle.resources.specs.Files.{put, extended}
-use Rattle.stores.specs.Chains.{node, blank_node, entry, linked, shifted_nodes, shifted_entries, jump_of, Short, Cleared, Order}
+use Rattle.stores.specs.Chains.{node, blank_node, entry, linked, shifted_nodes, shifted_entries, jump_of, Short}
 use Rattle.stores.specs.Filed.{files_of, files_in, load_of}
 use Rattle.stores.specs.Stores.{block_val, block_files, block_load, blocks}
 use Rattle.stores.proofs.Layings.{laid_here, laid_below, laid_above, stretch_same}

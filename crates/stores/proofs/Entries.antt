@@ -3,13 +3,13 @@ use Rattle.std.proofs.Common.{◌≡◌, ℕ, suc, ◌+◌, ◌-◌, ◌^◌, �
 use Rattle.std.specs.List.{remove}
 use borrow.Rule.Slice.PartMut.{put_mid, mid_of}
 use Rattle.std.proofs.lemmas.Slice.{put_mid-rotated}
-use Rattle.std.proofs.lemmas.List.{set_at, get_or-set_same, get_or-set_other, ext_get_or, get_or_append_left, get_or_push, length_push, drop_more}
+use Rattle.std.proofs.lemmas.List.{set_at, get_or-set_same, get_or-set_other, get_or_append_left, get_or_push, length_push, drop_more}
 use Rattle.std.proofs.lemmas.List.Edits.{get_or-remove_below, get_or-remove_above, length-remove}
 use Rattle.std.proofs.lemmas.List.Sums.{sum_by-set, sum_by-append, sum_by_push, sum_by-take-drop, sum_by-cons}
 use Rattle.std.proofs.lemmas.Bool.{cases_eq, cases_lt, cond_both, ltb-true, cond-true, cond-false, lt-ltb, le-ltb}
 use Rattle.stores.specs.declared.node.Node.{Node}
 use Rattle.stores.specs.declared.node.Entry.{Entry}
-use Rattle.stores.specs.Chains.{node, entry, blank_entry, Owned, Lasts, Apart, Full, Sound, Numbers, closed, closed_up, spare, renewed, next_after, shifted_nodes, shifted_entries, jump_of, Cleared, Order}
+use Rattle.stores.specs.Chains.{node, entry, blank_entry, Owned, Lasts, Apart, Full, closed, closed_up, spare, renewed, next_after, shifted_nodes, shifted_entries, jump_of, Cleared, Order}
 use Rattle.stores.proofs.Chaining.{owner_entry, owned_from}
 use Rattle.stores.proofs.Shifting.{Moves, moves_of, nodes_long, entries_long, node_here, node_other, number_same, live_same, walk_other}
 
@@ -262,11 +262,11 @@ cleared_more {ms = ms} {ds} i h low mv =
     }
 
 -- the same, where the code's words stand for the results
-pub cleared_more_is : {ns : List Node} {es : List Entry} {ms : List Node} {ds : List Entry} {count next : ℕ} (i : ℕ) → Cleared ns es i ms ds → Order ms ds count next → i < 257 → 0 < i → 0 < (entry ds i).len →
+pub cleared_more_is : {ns : List Node} {es : List Entry} {ms : List Node} {ds : List Entry} {count next : ℕ} (i : ℕ) → Cleared ns es i ms ds → Order ms ds count next → 0 < i → i ≤ count → 0 < (entry ds i).len →
     (ps : List Node) (qs : List Entry) → ps ≡ shifted_nodes ms ds i 0 (jump_of ms ds i 0) 0 0 → qs ≡ shifted_entries ms ds i 0 → Cleared ns es i ps qs
-cleared_more_is {ns = ns} {es} {ms} {ds} i h o li low some ps qs e f =
+cleared_more_is {ns = ns} {es} {ms} {ds} i h o low le some ps qs e f =
     subst (λ (x : List Node). Cleared ns es i x qs) (sym e)
-    (subst (λ (x : List Entry). Cleared ns es i (shifted_nodes ms ds i 0 (jump_of ms ds i 0) 0 0) x) (sym f) (cleared_more i h low (moves_of o i 0 li (omega arith) (λ u. omega arith) some)))
+    (subst (λ (x : List Entry). Cleared ns es i (shifted_nodes ms ds i 0 (jump_of ms ds i 0) 0 0) x) (sym f) (cleared_more i h low (moves_of o i 0 le (omega arith) (λ u. omega arith) some)))
 
 pub drop_order_is : {ns : List Node} {es : List Entry} {count next : ℕ} (o : Order ns es count next) (i : ℕ) → 0 < i → i ≤ count → (entry es i).len ≡ 0 →
     (ts : List Entry) (m : ℕ) → ts ≡ closed_up es i (renewed next (entry es i).number) → m ≡ next_after next → Order ns ts (count - 1) m

@@ -9,8 +9,8 @@ use Rattle.resources.specs.declared.cause.Cause.{Cause}
 use Rattle.stores.specs.declared.node.Node.{Node}
 use Rattle.stores.specs.declared.node.Entry.{Entry}
 use Rattle.resources.specs.Files.{File, Files, put, live_at, extended, shut, batch_at}
-use Rattle.stores.specs.Chains.{node, entry, held, walk, linked, closed, closed_up, shifted_nodes, shifted_entries, jump_of, Cleared, Located, Sound, Order}
-use Rattle.stores.specs.Filed.{file_of, files_of, files_in, Load, load_of, without, restarts}
+use Rattle.stores.specs.Chains.{node, entry, held, walk, linked, closed, closed_up, shifted_nodes, shifted_entries, jump_of, Cleared, Located, Order}
+use Rattle.stores.specs.Filed.{file_of, files_of, files_in, load_of, without}
 use Rattle.stores.proofs.Chaining.{length-walk, walk_at}
 use Rattle.stores.proofs.Shifting.{Moves, moves_of, shift_order, node_here, node_other, number_same, live_same, walk_other, walk_to}
 use Rattle.stores.proofs.Entries.{entry_closed, entry_kept, finish_order}
@@ -78,10 +78,10 @@ module _ {ns : List Node} {es : List Entry} {count next : ℕ} (o : Order ns es 
   ds = shifted_entries ns es 0 i
 
   mv : Moves ns es 0 i (jump_of ns es 0 i)
-  mv = moves_of o 0 i (omega arith) (omega (arith, o.few)) (λ e. omega arith) some
+  mv = moves_of o 0 i (omega arith) le (λ e. omega arith) some
 
   o' : Order ms ds count next
-  o' = shift_order mv start m o (λ u. omega arith) (λ u. omega arith) (λ z. absurd (omega arith))
+  o' = shift_order mv start m o (omega arith) le (λ z. absurd (omega arith))
 
   abbrev val : ℕ → List ℕ
   val c = v c (node ns c)

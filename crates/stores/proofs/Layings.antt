@@ -1,8 +1,8 @@
 -- Words written to a memory, and words copied from it. Assumes nothing.
-use Rattle.std.proofs.Common.{◌≡◌, ℕ, ◌+◌, ◌-◌, ◌<◌, ◌≤◌, List, ◌++◌, length, get_or, take, drop, set, sym, refl, ap, ◌∙◌, zero-add, arith, length-drop, length-take}
+use Rattle.std.proofs.Common.{◌≡◌, ℕ, ◌+◌, ◌-◌, ◌<◌, ◌≤◌, List, ◌++◌, length, get_or, take, drop, sym, refl, ap, ◌∙◌, arith, length-drop, length-take}
 use lib.Seq.{paste}
 use Rattle.std.proofs.lemmas.List.{get_or-drop, get_or-take, ext_get_or, get_or_append_left, get_or-append_right}
-use Rattle.std.proofs.lemmas.List.Edits.{paste_more, paste_all, length-paste}
+use Rattle.std.proofs.lemmas.List.Edits.{paste_all, length-paste}
 
 -- what was laid down is found there
 pub laid_here : (m : List ℕ) (at : ℕ) (s : List ℕ) (n : ℕ) → n ≡ length s → at + length s ≤ length m → take n (drop at (paste m at s (length s))) ≡ s

@@ -1,9 +1,9 @@
 -- What the calls of a log store do. Assumes nothing.
-use Rattle.std.proofs.Common.{◌≡◌, ℕ, ◌+◌, ◌-◌, ◌*◌, ◌/◌, ◌<◌, ◌≤◌, Bool, true, false, leb, List, length, get_or, take, drop, set, Some, None, vec_items, Option, sym, refl, ap, ◌∙◌, subst, ⊎_elim, arith, length-drop, length-set, length-take}
+use Rattle.std.proofs.Common.{◌≡◌, ℕ, ◌+◌, ◌-◌, ◌/◌, ◌<◌, ◌≤◌, Bool, true, false, leb, List, length, get_or, take, drop, set, Some, None, vec_items, Option, sym, refl, ap, ◌∙◌, subst, ⊎_elim, arith, length-drop, length-set, length-take}
 use lib.Seq.{paste}
 use Rattle.std.proofs.lemmas.List.Edits.{length-paste}
 use Rattle.std.proofs.lemmas.List.{get_or-set_same, get_or-set_other}
-use Rattle.std.proofs.lemmas.Bool.{lt-leb, le-leb, cases_eq, eq-eqb, ne_eqb}
+use Rattle.std.proofs.lemmas.Bool.{lt-leb, le-leb, cases_eq}
 use Rattle.stores.specs.declared.node.Node.{Node}
 use Rattle.stores.specs.declared.node.Entry.{Entry}
 use Rattle.stores.specs.declared.directory.Directory.{Directory}
@@ -93,7 +93,7 @@ module _ (s : LogStore) (i n : ℕ) (ws m : List ℕ) (lo : 0 < i) (le : i ≤ s
       let ns = vec_items s.dir.nodes in
       let es = s.dir.entries in
       let b = (entry es 0).last in
-      let mv = moves_of s.dir.order 0 i (omega arith) (omega (arith, s.dir.order.few)) (λ u. omega arith) free in
+      let mv = moves_of s.dir.order 0 i (omega arith) le (λ u. omega arith) free in
       let lb = (mv.sound.lasts 0 mv.source free).0 in
       let d = linked (entry es i) b (jump_of ns es 0 i) (s.end + 2) (length ws) in
       let lm : length m ≡ length w = ap length laid ∙ long_recorded w s.end n ws fits in

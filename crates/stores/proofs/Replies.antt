@@ -7,7 +7,7 @@ use Rattle.resources.specs.declared.cause.Cause.TheVariants.{NoSpace, Misuse}
 use Rattle.stores.specs.declared.node.Node.{Node}
 use Rattle.stores.specs.declared.node.Entry.{Entry}
 use Rattle.stores.specs.declared.directory.Directory.{Directory}
-use Rattle.resources.specs.Files.{Files, live_at, length_ok, may_append, batch_at, laid, create, append, finish, number, done, failed}
+use Rattle.resources.specs.Files.{Files, live_at, length_ok, may_append, batch_at, laid, append, number, done, failed}
 use Rattle.stores.specs.Chains.{node, entry, closed, closed_up, Cleared, Order, Sought, SoughtOpen}
 use Rattle.stores.specs.Filed.{files_of, files_in, load_of, restarts, answer, read_reply, dir_files, dir_load, dir_view, OpensFor, Creates, Finishes, Removes}
 use Rattle.stores.proofs.Entries.{finish_free}

@@ -289,10 +289,10 @@ module _ {ns : List Node} {es : List Entry} {f t j : ℕ} (mv : Moves ns es f t 
         ∙ sym (ap (λ (x : Entry). walk (λ c. (node ms c).back) val' x.last x.len ++ val (entry es f).last ∷ []) entry_from)
 
   -- what a directory keeps stays
-  module _ {count next : ℕ} (o : Order ns es count next) (cf : count < f → ⊥) (ct : count < t → ⊥) (plain : t ≡ 0 → (start ≡ 0) × (n ≡ 0)) where
+  module _ {count next : ℕ} (o : Order ns es count next) (cf : f ≤ count) (ct : t ≤ count) (plain : t ≡ 0 → (start ≡ 0) × (n ≡ 0)) where
     shift_unused : Unused ds count
     shift_unused i (h, l) =
-        let e : entry ds i ≡ entry es i = entry_other i (λ u. cf (subst (λ (x : ℕ). count < x) u h)) (λ u. ct (subst (λ (x : ℕ). count < x) u h)) in
+        let e : entry ds i ≡ entry es i = entry_other i (λ u. omega arith) (λ u. omega arith) in
         rw e (o.unused i (h, omega (arith, entries_long)))
 
     shift_idle : Idle ms
@@ -335,14 +335,14 @@ jump_ok {ns = ns} {es} s f t lt = (
       (λ _. (a.0, a.1, omega (arith, a.2))))),
 )
 
-pub moves_of : {ns : List Node} {es : List Entry} {count next : ℕ} (o : Order ns es count next) (f t : ℕ) → f < 257 → t < 257 → (f ≡ t → ⊥) → 0 < (entry es f).len → Moves ns es f t (jump_of ns es f t)
+pub moves_of : {ns : List Node} {es : List Entry} {count next : ℕ} (o : Order ns es count next) (f t : ℕ) → f ≤ count → t ≤ count → (f ≡ t → ⊥) → 0 < (entry es f).len → Moves ns es f t (jump_of ns es f t)
 moves_of o f t lf lt ne some = record {
   sound = o.sound;
-  source = omega (arith, o.table);
-  target = omega (arith, o.table);
+  source = omega (arith, o.table, o.few);
+  target = omega (arith, o.table, o.few);
   other = ne;
   some = some;
-  jump = jump_ok o.sound f t (omega (arith, o.table));
+  jump = jump_ok o.sound f t (omega (arith, o.table, o.few));
 }
 
 -- a chain is no longer than there are nodes
@@ -350,12 +350,11 @@ pub len_most : {ns : List Node} {es : List Entry} (i : ℕ) → Sound ns es → 
 len_most {es = es} i s l = omega (arith, get_or-le-sum_by (λ (e : Entry). e.len) es i blank_entry l, s.full)
 
 -- the same, where the code's words stand for the results
-pub shift_order_is : {ns : List Node} {es : List Entry} {count next : ℕ} (o : Order ns es count next) (f t start n : ℕ) → Moves ns es f t (jump_of ns es f t) →
-    (t ≡ 0 → (start ≡ 0) × (n ≡ 0)) → (count < t → ⊥) → (count < f → ⊥) →
+pub shift_order_is : {ns : List Node} {es : List Entry} {count next : ℕ} (o : Order ns es count next) (f t start n : ℕ) → Moves ns es f t (jump_of ns es f t) → f ≤ count → t ≤ count → (t ≡ 0 → (start ≡ 0) × (n ≡ 0)) →
     (back jump before : ℕ) → back ≡ cond (eqb (entry es t).len 0) (entry es f).last (entry es t).last → jump ≡ jump_of ns es f t → before ≡ (node ns (entry es f).last).back →
     Order (set ns (entry es f).last (record { owner = (entry es t).number; place = (entry es t).len; back = back; jump = jump; start = start; length = n }))
     (set (set es f (shorter (entry es f) before)) t (longer (entry es t) (entry es f).last)) count next
-shift_order_is {ns = ns} {es} {count} {next} o f t start n mv plain ct cf back jump before e g h =
+shift_order_is {ns = ns} {es} {count} {next} o f t start n mv cf ct plain back jump before e g h =
     let b = (entry es f).last in
     let made : ℕ → ℕ → ℕ → Type 0 = λ x y z. Order (set ns b (record { owner = (entry es t).number; place = (entry es t).len; back = x; jump = y; start = start; length = n }))
     (set (set es f (shorter (entry es f) z)) t (longer (entry es t) b)) count next in

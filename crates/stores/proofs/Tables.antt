@@ -10,7 +10,7 @@ use Rattle.std.proofs.lemmas.Bool.{cases_eq, cases_lt, eq-eqb, ne_eqb, eqb-true,
 use Rattle.stores.specs.declared.node.Node.{Node}
 use Rattle.stores.specs.declared.node.Entry.{Entry}
 use Rattle.resources.specs.Files.{File, put, fresh}
-use Rattle.stores.specs.Chains.{node, entry, blank_entry, Apart, held, walk, closed_up, Sought, Order}
+use Rattle.stores.specs.Chains.{node, entry, blank_entry, held, walk, closed_up, Sought, Order}
 use Rattle.stores.specs.Filed.{in_use, numbers_of, file_of, files_of, lookup, files_in, load_of}
 use Rattle.stores.proofs.Lookups.{Hit, Missing, lookup_hit, lookup_missing, lookup_set, lookup_push, lookup_remove}
 use Rattle.stores.proofs.Chaining.{length-walk}

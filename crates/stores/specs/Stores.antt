@@ -1,13 +1,10 @@
 -- What the delivered stores hold, and exactly what they answer. Assumes nothing.
-use Rattle.std.specs.Prelude.{◌≡◌, ℕ, ◌+◌, ◌-◌, ◌*◌, ◌/◌, ◌≤◌, Bool, false, cond, ◌⊎◌, List, [], ◌∷◌, map, length, take, drop, Some, None, vec_items, sum_by, Option, ◌==◌, ◌≢◌, nat_eq, nat_le, nat_lt, slice_set}
+use Rattle.std.specs.Prelude.{◌≡◌, ℕ, ◌+◌, ◌*◌, ◌/◌, cond, List, ◌∷◌, length, take, drop, None, vec_items, nat_le, nat_lt, slice_set}
 use Rattle.std.proofs.Math.Seq.{paste}
-use Rattle.resources.specs.declared.cause.Cause.TheVariants.{NoSpace, Misuse}
 use Rattle.stores.specs.declared.node.Node.{Node}
-use Rattle.stores.specs.declared.node.Entry.{Entry}
 use Rattle.stores.specs.declared.block.BlockStore.{BlockStore}
 use Rattle.stores.specs.declared.log.LogStore.{LogStore}
-use Rattle.resources.specs.Files.{File, Files, live_at, batch_at, may_append, Ask, create, append, finish, read, remove, Reply, number, done, failed}
-use Rattle.stores.specs.Chains.{entry}
+use Rattle.resources.specs.Files.{Files, Ask, create, append, finish, read, remove, Reply, number, done, failed}
 use Rattle.stores.specs.Filed.{Load, load_after, View, answer, restarts, dir_files, dir_load, dir_view, FitFor, UnfitFor}
 
 -- the words of a block: block c begins at the word 64 c

@@ -22,7 +22,7 @@ pub(crate) struct Directory {
     // a node for each batch
     pub(crate) nodes: Vec<Node>,
     // First what is free, then the files in use in the order of their creation, then entries for files to come.
-    // A fixed table, and no map: nothing is allocated, and all entries hold numbers at every time.
+    // A fixed table, and no map or `Vec`: the memory is handed in and fixed, and all entries are in use, those to come for their numbers.
     pub(crate) entries: [Entry; ENTRIES],
     // how many files are in use
     pub(crate) count: usize,
@@ -170,7 +170,7 @@ impl Directory {
 
     // The last node of the entry `from` goes behind the last of the entry `to`.
     pub(crate) fn shift(&mut self, from: usize, to: usize, start: usize, length: usize)
-        requires { (from < 257) × (to < 257) × (from ≢ to) × (0 < (entry self.old.entries from).len) × (to ≡ 0 → (start ≡ 0) × (length ≡ 0)) × (self.old.count < to → ⊥) × (self.old.count < from → ⊥) }
+        requires { (from ≤ self.old.count) × (to ≤ self.old.count) × (from ≢ to) × (0 < (entry self.old.entries from).len) × (to ≡ 0 → (start ≡ 0) × (length ≡ 0)) }
         ensures nodes { self.new.nodes.items ≡ shifted_nodes self.old.nodes.items self.old.entries from to (jump_of self.old.nodes.items self.old.entries from to) start length }
         ensures entries { self.new.entries ≡ shifted_entries self.old.nodes.items self.old.entries from to }
         ensures rest { (self.new.count ≡ self.old.count) × (self.new.next ≡ self.old.next) }

@@ -14,5 +14,5 @@ pub mod node;
 
 // The bounds of the stores.
 pub mod blocks {
-    pub use crate::directory::STORE_WORDS;
+    pub use crate::directory::{FILES_MOST, STORE_WORDS};
 }

@@ -1,4 +1,4 @@
-use Rattle.std.proofs.Common.{◌≡◌, ℕ, ◌<◌, length}
+use Rattle.std.proofs.Common.{◌≡◌, ℕ, ◌<◌}
 use Rattle.stores.specs.Chains.{node, free_node}
 use Rattle.stores.proofs.directory.free_all.Given as goal
 

@@ -1,17 +1,6 @@
 -- Every node is free, and no entry is in use.
-use Rattle.std.proofs.Common.{◌≤◌, ◌/◌, length, vec_items, ◌∙◌, arith}
+use Rattle.std.proofs.Common.{◌≤◌, length, vec_items, ◌∙◌, arith}
 use Rattle.std.proofs.Math.Nat.{div-le_self}
-use Rattle.std.proofs.Math.Nat.{div-mul-le_self}
-use Rattle.std.proofs.Math.Nat.{not-suc-le_self}
-use Rattle.std.proofs.lemmas.Nat.{ones_le_self}
-use Rattle.std.proofs.Math.Nat.{mul-div-le}
-use Rattle.std.proofs.Math.Nat.{div_self}
-use Rattle.std.proofs.Math.Nat.{div-le_of_le-mul}
-use Rattle.std.proofs.Math.Nat.{div-lt_self}
-use Rattle.std.proofs.lemmas.Nat.{le-div}
-use Rattle.std.proofs.Math.Nat.{le-div_iff_mul-le}
-use Rattle.std.proofs.Math.Nat.{div-eq_of_lt-le}
-use Rattle.std.specs.Int.{div_ceil}  -- `x / y`, rounded up
 use Rattle.stores.proofs.Openings.{open_order_is}
 use Rattle.stores.proofs.directory.Directory.new.Goals as goal
 

@@ -1,5 +1,5 @@
 -- A batch that is not allowed, too little room, or one record more.
-use Rattle.std.proofs.Common.{◌+◌, ◌<◌, ◌≤◌, length, vec_items, refl, arith}
+use Rattle.std.proofs.Common.{◌+◌, ◌≤◌, length, vec_items, refl, arith}
 use Rattle.std.proofs.lemmas.Result.{err_from_is_err_and}
 use Rattle.stores.specs.Stores.{log_val, log_view, log_words}
 use Rattle.stores.proofs.Logging.{room_none, room_some, log_append, append-keeps, node_free}
@@ -29,7 +29,7 @@ shift-requires c =
     let s = c.args.self.now in
     let f = c.in_ok-i.ensures in
     let free = node_free s (length c.args.words.now) (length_some c.args.words.now f.3) (omega (arith, c.if-next-len.false, c.len.ensures, s.memory.words.ok.0)) in
-    (omega arith, omega (arith, s.dir.order.few, f.1), (λ e. omega (arith, f.0)), free, (λ z. absurd (omega (arith, f.0))), (λ u. omega (arith, f.1)), (λ u. omega arith))
+    (omega arith, f.1, (λ e. omega (arith, f.0)), free, (λ z. absurd (omega (arith, f.0))))
 
 pub invariant_of-self : goal.invariant_of-self
 invariant_of-self c =

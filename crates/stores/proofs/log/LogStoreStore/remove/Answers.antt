@@ -1,5 +1,5 @@
 -- There was no such file; or it goes, and the run restarts if it was the last.
-use Rattle.std.proofs.Common.{◌≡◌, true, false, ◌&&◌, vec_items, sym, refl, ap, ◌∙◌, nat_eq}
+use Rattle.std.proofs.Common.{◌≡◌, true, false, vec_items, sym, refl, ◌∙◌}
 use Rattle.std.proofs.lemmas.Bool.{cond-true, cond-false, eq-eqb, ne_eqb}
 use Rattle.stores.specs.Filed.{restarts}
 use Rattle.stores.specs.Stores.{log_val, log_files, log_load, log_words}
@@ -31,12 +31,12 @@ returns-else-remove c =
     let s = c.args.self.now in
     let v = log_val (log_words s) in
     elim c.else-remove.branch [
-      else-remove-via-then-remove+else-self-eq0 w ↦
-        let r = w.if-remove.ensures in
-        let y : restarts (log_load s) (log_files s c.args.file) ≡ false = r.last v ∙ ne_eqb c.remove.new.self.count 0 w.if-self-eq0.false in
-        rw w.self-is (record { after = r.after v; exact = record { reply = refl; load = r.load v; end = sym (cond-false _ 0 s.end y); words = sym (cond-false _ _ (log_words s) y) } })
+      | else-remove-via-then-remove+else-self-eq0 w ↦
+          let r = w.if-remove.ensures in
+          let y : restarts (log_load s) (log_files s c.args.file) ≡ false = r.last v ∙ ne_eqb c.remove.new.self.count 0 w.if-self-eq0.false in
+          rw w.self-is (record { after = r.after v; exact = record { reply = refl; load = r.load v; end = sym (cond-false _ 0 s.end y); words = sym (cond-false _ _ (log_words s) y) } })
       | else-remove-via-else-remove w ↦
-        let r = w.if-remove.ensures in
-        let y : restarts (log_load s) (log_files s c.args.file) ≡ false = r.last v in
-        rw w.self-is (record { after = r.after v; exact = record { reply = refl; load = r.load v; end = sym (cond-false _ 0 s.end y); words = sym (cond-false _ _ (log_words s) y) } })
+          let r = w.if-remove.ensures in
+          let y : restarts (log_load s) (log_files s c.args.file) ≡ false = r.last v in
+          rw w.self-is (record { after = r.after v; exact = record { reply = refl; load = r.load v; end = sym (cond-false _ 0 s.end y); words = sym (cond-false _ _ (log_words s) y) } })
     ]
