@@ -14,11 +14,11 @@ returns-in_err-i c =
     let h = c.in_err-i.ensures.1 (block_val (vec_items s.memory.words)) in
     rw (p.1, p.2, c.in_err-i.ensures.0) (record { lawful = h; after = refl; exact = record { reply = no_append s.dir (block_val (vec_items s.memory.words)) (block_view s).space c.args.file c.args.words.now h; load = refl; size = refl } })
 
-pub returns-then-free-eq0 : goal.returns-then-free-eq0
-returns-then-free-eq0 c =
+pub returns-then-free-eq0-clause-exact : goal.returns-then-free-eq0-clause-exact
+returns-then-free-eq0-clause-exact c =
     let s = c.args.self.now in
     let h = may s.dir c.args.file c.args.words.now c.in_ok-i.i c.in_ok-i.ensures (block_val (vec_items s.memory.words)) in
-    record { lawful = (h, refl); after = refl; exact = record { reply = no_space s.dir (block_val (vec_items s.memory.words)) (block_view s).space c.args.file c.args.words.now h (space_none s c.if-free-eq0.true); load = refl; size = refl } }
+    record { reply = no_space s.dir (block_val (vec_items s.memory.words)) (block_view s).space c.args.file c.args.words.now h (space_none s c.if-free-eq0.true); load = refl; size = refl }
 
 pub invariant_of-self : goal.invariant_of-self
 invariant_of-self c =

@@ -15,11 +15,6 @@ returns-in_err-b c =
     let h = read_none (block_files s) c.args.file c.args.batch (located_none s.dir.order (block_val (vec_items s.memory.words)) c.args.file c.args.batch _ c.in_err-b.ensures) in
     rw (p.1, p.2, c.in_err-b.ensures.0) (record { lawful = h.0; after = refl; place = refl; exact = record { reply = h.1; load = refl; size = refl } })
 
-pub fetch-requires : goal.fetch-requires
-fetch-requires c =
-    let a = read_in c.args.self.now c.in_ok-b.b c.index.result.now c.in_ok-b.ensures.5 (node_read (vec_items c.args.self.now.dir.nodes) c.in_ok-b.ensures.5 c.index.ensures) in
-    (a.0, a.1, c.told-place)
-
 pub returns : goal.returns
 returns c =
     let s = c.args.self.now in

@@ -13,24 +13,6 @@ returns-in_err-i c =
     let h = c.in_err-i.ensures.1 (log_val (log_words s)) in
     rw (p.1, p.2, c.in_err-i.ensures.0) (record { lawful = h; after = refl; exact = record { reply = no_append s.dir (log_val (log_words s)) (log_view s).space c.args.file c.args.words.now h; load = refl; end = refl; words = refl } })
 
-pub returns-then-next-len : goal.returns-then-next-len
-returns-then-next-len c =
-    let s = c.args.self.now in
-    let ws = c.args.words.now in
-    let h = may s.dir c.args.file ws c.in_ok-i.i c.in_ok-i.ensures (log_val (log_words s)) in
-    let full = room_none s ws (omega (arith, c.if-next-len.true, c.len.ensures, s.memory.words.ok.0)) in
-    record { lawful = (h, refl); after = refl; exact = record { reply = no_space s.dir (log_val (log_words s)) (log_view s).space c.args.file ws h full; load = refl; end = refl; words = refl } }
-
-pub record-requires : goal.record-requires
-record-requires c = omega (arith, c.if-next-len.false, c.len.ensures, c.args.self.now.memory.words.ok.0)
-
-pub shift-requires : goal.shift-requires
-shift-requires c =
-    let s = c.args.self.now in
-    let f = c.in_ok-i.ensures in
-    let free = node_free s (length c.args.words.now) (length_some c.args.words.now f.3) (omega (arith, c.if-next-len.false, c.len.ensures, s.memory.words.ok.0)) in
-    (omega arith, f.1, (λ e. omega (arith, f.0)), free, (λ z. absurd (omega (arith, f.0))))
-
 pub invariant_of-self : goal.invariant_of-self
 invariant_of-self c =
     let s = c.args.self.now in

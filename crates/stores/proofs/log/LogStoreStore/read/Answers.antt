@@ -15,12 +15,6 @@ returns-in_err-b c =
     let h = read_none (log_files s) c.args.file c.args.batch (located_none s.dir.order (log_val (log_words s)) c.args.file c.args.batch _ c.in_err-b.ensures) in
     rw (p.1, p.2, c.in_err-b.ensures.0) (record { lawful = h.0; after = refl; place = refl; exact = record { reply = h.1; load = refl; end = refl; words = refl } })
 
-pub fetch-requires : goal.fetch-requires
-fetch-requires c =
-    let s = c.args.self.now in
-    let e = node_read (vec_items c.args.self.now.dir.nodes) c.in_ok-b.ensures.5 c.index.ensures in
-    (record_in s c.in_ok-b.b c.index.result.now c.in_ok-b.ensures.5 e, record_short s c.in_ok-b.b c.index.result.now c.in_ok-b.ensures.5 e, c.told-place)
-
 pub returns : goal.returns
 returns c =
     let s = c.args.self.now in
