@@ -48,14 +48,22 @@ module _ {ns : List Node} {es : List Entry} {count next : ℕ} (o : Order ns es 
   pub entry_kept : (j : ℕ) → (j ≡ i → ⊥) → entry ds j ≡ entry es j
   entry_kept j h = get_or-set_other es i j _ _ h
 
+  -- what the mark does not touch
+  pub kept_of : {X : Type 0} (f : Entry → X) → f (closed (entry es i)) ≡ f (entry es i) → (j : ℕ) → f (entry ds j) ≡ f (entry es j)
+  kept_of f h j =
+      ⊎_elim
+      (λ (e : j ≡ i). subst (λ (x : ℕ). f (entry ds x) ≡ f (entry es x)) (sym e) (ap f entry_closed ∙ h))
+      (λ (ne : j ≡ i → ⊥). ap f (entry_kept j ne))
+      (cases_eq j i)
+
   same_number : (j : ℕ) → (entry ds j).number ≡ (entry es j).number
-  same_number j = ⊎_elim (λ (e : j ≡ i). subst (λ (x : ℕ). (entry ds x).number ≡ (entry es x).number) (sym e) (ap (λ (x : Entry). x.number) entry_closed)) (λ (h : j ≡ i → ⊥). ap (λ (x : Entry). x.number) (entry_kept j h)) (cases_eq j i)
+  same_number = kept_of (λ x. x.number) refl
 
   same_last : (j : ℕ) → (entry ds j).last ≡ (entry es j).last
-  same_last j = ⊎_elim (λ (e : j ≡ i). subst (λ (x : ℕ). (entry ds x).last ≡ (entry es x).last) (sym e) (ap (λ (x : Entry). x.last) entry_closed)) (λ (h : j ≡ i → ⊥). ap (λ (x : Entry). x.last) (entry_kept j h)) (cases_eq j i)
+  same_last = kept_of (λ x. x.last) refl
 
   same_len : (j : ℕ) → (entry ds j).len ≡ (entry es j).len
-  same_len j = ⊎_elim (λ (e : j ≡ i). subst (λ (x : ℕ). (entry ds x).len ≡ (entry es x).len) (sym e) (ap (λ (x : Entry). x.len) entry_closed)) (λ (h : j ≡ i → ⊥). ap (λ (x : Entry). x.len) (entry_kept j h)) (cases_eq j i)
+  same_len = kept_of (λ x. x.len) refl
 
   long : length ds ≡ length es
   long = length-set es i _
@@ -236,10 +244,6 @@ module _ {ns : List Node} {es : List Entry} {count next : ℕ} (o : Order ns es 
         idle = o.idle;
       }
 
--- nothing was lost yet
-pub cleared_none : (ns : List Node) (es : List Entry) (i : ℕ) → Cleared ns es i ns es
-cleared_none ns es i = record { nodes = refl; entries = refl; number = λ j. refl; live = λ j. refl; others = λ v j a b h. refl; words = λ b. (omega arith, omega arith) }
-
 -- one batch more
 cleared_more : {ns : List Node} {es : List Entry} {ms : List Node} {ds : List Entry} (i : ℕ) → Cleared ns es i ms ds → 0 < i → Moves ms ds i 0 (jump_of ms ds i 0) →
     Cleared ns es i (shifted_nodes ms ds i 0 (jump_of ms ds i 0) 0 0) (shifted_entries ms ds i 0)
@@ -284,10 +288,3 @@ closes_up {es = es} o i low le ys f e {n} {m} g h =
     let lr = length-remove es i (omega (arith, o.table, o.few)) in
     ap (λ (x : List Entry). set x 256 e) (put_mid-rotated i (257 - i) es ys blank_entry (omega (arith, o.table, o.few)) (omega (arith, o.table)) f)
     ∙ ap (set (remove es i ++ entry es i ∷ []) 256) (g ∙ ap spare h) ∙ set_at (remove es i) (entry es i) [] (spare m) 256 (omega (arith, o.table))
-
--- the number for an entry that is freed, and the next after it
-pub renewed_new : (next old : ℕ) → next < 2 ^ 32 → (renewed next old ≡ next) × (next_after next ≡ next + 1)
-renewed_new next old l = (cond-true (ltb next (2 ^ 32)) next old (lt-ltb next (2 ^ 32) l), cond-true (ltb next (2 ^ 32)) (next + 1) next (lt-ltb next (2 ^ 32) l))
-
-pub renewed_old : (next old : ℕ) → 2 ^ 32 ≤ next → (renewed next old ≡ old) × (next_after next ≡ next)
-renewed_old next old l = (cond-false (ltb next (2 ^ 32)) next old (le-ltb next (2 ^ 32) l), cond-false (ltb next (2 ^ 32)) (next + 1) next (le-ltb next (2 ^ 32) l))

@@ -1,5 +1,5 @@
 -- What the steps of a directory do to the files, whatever the nodes hold. Assumes nothing.
-use Rattle.std.proofs.Common.{◌≡◌, ℕ, zero, suc, ◌+◌, ◌-◌, ◌<◌, ◌≤◌, Bool, true, false, eqb, ◌⊎◌, List, [], ◌∷◌, ◌++◌, length, set, Some, None, Ok, Err, Option, sym, ap, ◌∙◌, subst, inl, inr, ⊎_elim, arith}
+use Rattle.std.proofs.Common.{◌≡◌, ℕ, zero, suc, ◌+◌, ◌-◌, ◌<◌, ◌≤◌, Bool, true, false, eqb, ◌⊎◌, List, [], ◌∷◌, ◌++◌, length, set, Some, None, Ok, Err, Option, sym, refl, ap, ◌∙◌, subst, inl, inr, ⊎_elim, arith}
 use mathlib.Core.Path.{fun_ext}
 use Rattle.std.proofs.lemmas.List.{length_push}
 use Rattle.std.proofs.lemmas.Option.{slice_get-get_or, slice_get_past}
@@ -13,7 +13,7 @@ use Rattle.stores.specs.Chains.{node, entry, held, walk, linked, closed, closed_
 use Rattle.stores.specs.Filed.{file_of, files_of, files_in, load_of, without}
 use Rattle.stores.proofs.Chaining.{length-walk, walk_at}
 use Rattle.stores.proofs.Shifting.{Moves, moves_of, shift_order, node_here, node_other, number_same, live_same, walk_other, walk_to}
-use Rattle.stores.proofs.Entries.{entry_closed, entry_kept, finish_order}
+use Rattle.stores.proofs.Entries.{entry_closed, entry_kept, kept_of, finish_order}
 use Rattle.stores.proofs.Tables.{find_at, find_none, files_put, load_files, load_batches, files_drop, load_drop}
 
 -- an entry in use has the number, or none has
@@ -131,8 +131,7 @@ module _ {ns : List Node} {es : List Entry} {count next : ℕ} (o : Order ns es 
   qs = set es i (closed (entry es i))
 
   number_kept : (j : ℕ) → (entry qs j).number ≡ (entry es j).number
-  number_kept j =
-      ⊎_elim (λ (e : j ≡ i). subst (λ (x : ℕ). (entry qs x).number ≡ (entry es x).number) (sym e) (ap (λ (x : Entry). x.number) (entry_closed o i lo le))) (λ (h : j ≡ i → ⊥). ap (λ (x : Entry). x.number) (entry_kept o i lo le j h)) (cases_eq j i)
+  number_kept = kept_of o i lo le (λ x. x.number) refl
 
   others_kept : (j : ℕ) → 0 < j → j ≤ count → (j ≡ i → ⊥) → file_of ns v (entry qs j) ≡ file_of ns v (entry es j)
   others_kept j a b h = ap (file_of ns v) (entry_kept o i lo le j h)

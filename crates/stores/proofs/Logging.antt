@@ -1,9 +1,9 @@
 -- What the calls of a log store do. Assumes nothing.
-use Rattle.std.proofs.Common.{◌≡◌, ℕ, ◌+◌, ◌-◌, ◌/◌, ◌<◌, ◌≤◌, Bool, true, false, leb, List, length, get_or, take, drop, set, Some, None, vec_items, Option, sym, refl, ap, ◌∙◌, subst, ⊎_elim, arith, length-drop, length-set, length-take}
+use Rattle.std.proofs.Common.{◌≡◌, ℕ, ◌+◌, ◌-◌, ◌/◌, ◌<◌, ◌≤◌, Bool, true, leb, List, length, get_or, take, drop, set, Some, None, vec_items, Option, sym, refl, ap, ◌∙◌, subst, ⊎_elim, arith, length-drop, length-set, length-take}
 use lib.Seq.{paste}
 use Rattle.std.proofs.lemmas.List.Edits.{length-paste}
 use Rattle.std.proofs.lemmas.List.{get_or-set_same, get_or-set_other}
-use Rattle.std.proofs.lemmas.Bool.{lt-leb, le-leb, cases_eq}
+use Rattle.std.proofs.lemmas.Bool.{le-leb, cases_eq}
 use Rattle.stores.specs.declared.node.Node.{Node}
 use Rattle.stores.specs.declared.node.Entry.{Entry}
 use Rattle.stores.specs.declared.directory.Directory.{Directory}
@@ -113,9 +113,6 @@ module _ (s : LogStore) (i n : ℕ) (ws m : List ℕ) (lo : 0 < i) (le : i ≤ s
         thin = omega (arith, s.run.thin);
       }
 
-pub room_none : (s : LogStore) (ws : List ℕ) → length (log_words s) < s.end + 2 + length ws → leb (s.end + 2 + length ws) (length (log_words s)) ≡ false
-room_none s ws h = lt-leb _ _ h
-
 pub room_some : (s : LogStore) (ws : List ℕ) → s.end + 2 + length ws ≤ length (log_words s) → leb (s.end + 2 + length ws) (length (log_words s)) ≡ true
 room_some s ws h = le-leb _ _ h
 
@@ -197,6 +194,3 @@ open_keeps d given m o e f =
       enough = omega (arith, o.size);
       thin = omega (arith, o.size, ap (λ (x : Entry). x.len) o.blank.free);
     }
-
-pub record_short : (s : LogStore) (b : ℕ) (d : Node) → b < length (vec_items s.dir.nodes) → d ≡ node (vec_items s.dir.nodes) b → d.length ≤ 64
-record_short s b d l e = subst (λ (x : Node). x.length ≤ 64) (sym e) (s.run.short b l)

@@ -1,7 +1,7 @@
 -- What the calls of a directory answer, and what they do to its files, whatever the nodes hold. Assumes nothing.
 use Rattle.std.proofs.Common.{◌≡◌, ℕ, ◌+◌, ◌-◌, ◌<◌, ◌≤◌, Bool, true, false, cond, eqb, ltb, leb, List, ◌++◌, length, drop, set, is_some, vec_items, Some, None, Ok, Err, Option, Result, sym, refl, ap, ◌∙◌, subst, ⊎_elim, arith}
 use Rattle.std.specs.Option.{option_map}
-use Rattle.std.proofs.lemmas.Bool.{cond-true, cond-false, cases_eq, eq-eqb, ne_eqb, lt-ltb, le-ltb, and_left, and_right, and_from, and_parts, leb-true, ltb-true, le-leb, true≢false}
+use Rattle.std.proofs.lemmas.Bool.{cond-true, cond-false, cases_eq, eq-eqb, ne_eqb, lt-ltb, le-ltb, and_left, and_from, and_parts, leb-true, ltb-true, le-leb, true≢false}
 use Rattle.resources.specs.declared.cause.Cause.{Cause}
 use Rattle.resources.specs.declared.cause.Cause.TheVariants.{NoSpace, Misuse}
 use Rattle.stores.specs.declared.node.Node.{Node}
@@ -30,59 +30,65 @@ pub open_for_is : (d : Directory) (n : ℕ) (ws : List ℕ) → length_ok ws ≡
 open_for_is d n ws ok (Ok i) (lo, le, e, l) = (lo, le, e, ok, λ v. live_at_lem d.order v i n lo le e l)
 open_for_is d n ws ok (Err c) (m, h) = (m, λ v. and_left (live_at (dir_files d v n)) (length_ok ws) (not_live d.order v n h))
 
-pub bad_length : (d : Directory) (n : ℕ) (ws : List ℕ) → length_ok ws ≡ false → OpensFor d n ws (Err Misuse)
-bad_length d n ws h = (refl, λ v. and_right (live_at (dir_files d v n)) (length_ok ws) h)
-
 pub may : (d : Directory) (n : ℕ) (ws : List ℕ) (i : ℕ) → OpensFor d n ws (Ok i) → (v : ℕ → Node → List ℕ) → may_append (dir_files d v) n ws ≡ true
 may d n ws i h v = and_from (live_at (dir_files d v n)) (length_ok ws) (h.4 v) h.3
 
 -- a new file
-pub creates : (d t : Directory) → d.count < 256 → vec_items t.nodes ≡ vec_items d.nodes → t.entries ≡ d.entries → t.count ≡ d.count + 1 → Creates d (Ok (entry d.entries (d.count + 1)).number) t
-creates d t l e f g =
+pub creates : (d t : Directory) → d.count < 256 → vec_items t.nodes ≡ vec_items d.nodes → t.entries ≡ d.entries → t.count ≡ d.count + 1 → t.next ≡ d.next → Creates d (Ok (entry d.entries (d.count + 1)).number) t
+creates d t l e f g h =
     let o = d.order in
     let files : (v : ℕ → Node → List ℕ) → dir_files t v ≡ files_in (vec_items d.nodes) v d.entries (d.count + 1) = λ v.
     ap (λ (x : List Node). files_in x v t.entries t.count) e ∙ ap (λ (x : List Entry). files_in (vec_items d.nodes) v x t.count) f ∙ ap (files_in (vec_items d.nodes) v d.entries) g in
     let load : (v : ℕ → Node → List ℕ) → dir_load t v ≡ load_of (files_of (vec_items d.nodes) v d.entries (d.count + 1)) = λ v.
     ap (λ (x : List Node). load_of (files_of x v t.entries t.count)) e ∙ ap (λ (x : List Entry). load_of (files_of (vec_items d.nodes) v x t.count)) f ∙ ap (λ (x : ℕ). load_of (files_of (vec_items d.nodes) v d.entries x)) g in
     record {
+      made = sym (cond-true _ (Ok (entry d.entries (d.count + 1)).number) (Err NoSpace) (lt-ltb _ 256 l));
+      count = g ∙ sym (cond-true _ (d.count + 1) d.count (lt-ltb _ 256 l));
+      entries = f;
+      nodes = e;
+      next = h;
       lawful = λ v. (new_above o v l, new_below o v l, new_none o v l);
       after = λ v. files v ∙ files_create o v l;
       reply = λ v space. sym (cond-true _ (number (entry d.entries (d.count + 1)).number) (failed NoSpace) (lt-ltb _ 256 (omega (arith, files_long o v))));
       load = λ v. load v ∙ load_create o v l;
-      nodes = e;
-      free = ap (λ (x : List Entry). (entry x 0).len) f;
     }
 
 pub full : (d : Directory) → 256 ≤ d.count → Creates d (Err NoSpace) d
 full d l = record {
+  made = sym (cond-false _ (Ok (entry d.entries (d.count + 1)).number) (Err NoSpace) (le-ltb _ 256 l));
+  count = sym (cond-false _ (d.count + 1) d.count (le-ltb _ 256 l));
+  entries = refl;
+  nodes = refl;
+  next = refl;
   lawful = λ v. (refl, refl);
   after = λ v. refl;
   reply = λ v space. sym (cond-false _ (number (entry d.entries (d.count + 1)).number) (failed NoSpace) (le-ltb _ 256 (omega (arith, files_long d.order v))));
   load = λ v. refl;
-  nodes = refl;
-  free = refl;
 }
 
 -- a file that is finished, or none that is open
-pub finishes : (d t : Directory) (i n : ℕ) → SoughtOpen d.entries d.count n (Ok i) → vec_items t.nodes ≡ vec_items d.nodes → t.entries ≡ set d.entries i (closed (entry d.entries i)) → t.count ≡ d.count → Finishes d n (Ok (tt {0})) t
-finishes d t i n (lo, le, e, l) f g h =
+pub finishes : (d t : Directory) (i n : ℕ) → SoughtOpen d.entries d.count n (Ok i) → vec_items t.nodes ≡ vec_items d.nodes → t.entries ≡ set d.entries i (closed (entry d.entries i)) → t.count ≡ d.count → t.next ≡ d.next → Finishes d n (Ok (tt {0})) t
+finishes d t i n (lo, le, e, l) f g h k =
     let o = d.order in
     let ds = set d.entries i (closed (entry d.entries i)) in
     let live = λ (v : ℕ → Node → List ℕ). live_at_lem o v i n lo le e l in
     record {
+      marks = (i, lo, le, e, g);
+      count = h;
+      nodes = f;
+      next = k;
+      free = ap (λ (x : List Entry). (entry x 0).len) g ∙ finish_free d.entries i lo;
       lawful = live;
       after = λ v. ap (λ (x : List Node). files_in x v t.entries t.count) f ∙ ap (λ (x : List Entry). files_in (vec_items d.nodes) v x t.count) g ∙ ap (files_in (vec_items d.nodes) v ds) h ∙ finish_files o v i lo le n e;
       reply = λ v space. sym (cond-true _ done (failed Misuse) (live v));
       load = λ v. ap (λ (x : List Node). load_of (files_of x v t.entries t.count)) f ∙ ap (λ (x : List Entry). load_of (files_of (vec_items d.nodes) v x t.count)) g ∙ ap (λ (x : ℕ). load_of (files_of (vec_items d.nodes) v ds x)) h ∙ finish_load o v i lo le;
-      nodes = f;
-      free = ap (λ (x : List Entry). (entry x 0).len) g ∙ finish_free d.entries i lo;
     }
 
 pub no_finish : {U : Type 0} (d : Directory) (n : ℕ) (c : Cause) → SoughtOpen d.entries d.count n (Err c) → Finishes d n {U = U} (Err c) d
 no_finish {U = U} d n c (m, h) =
     let dead = λ (v : ℕ → Node → List ℕ). not_live d.order v n h in
     subst (λ (x : Cause). Finishes d n {U = U} (Err x) d) (sym m)
-    (record { lawful = dead; after = λ v. refl; reply = λ v space. sym (cond-false _ done (failed Misuse) (dead v)); load = λ v. refl; nodes = refl; free = refl })
+    (record { marks = refl; count = refl; nodes = refl; next = refl; free = refl; lawful = dead; after = λ v. refl; reply = λ v space. sym (cond-false _ done (failed Misuse) (dead v)); load = λ v. refl })
 
 -- a file that goes, or none that was there
 pub removes : (d a t : Directory) (i n : ℕ) → Sought d.entries d.count n (Some i) → Cleared (vec_items d.nodes) d.entries i (vec_items a.nodes) a.entries → (entry a.entries i).len ≡ 0 → a.count ≡ d.count →

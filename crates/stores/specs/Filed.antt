@@ -1,12 +1,12 @@
 -- The files of a directory, and what exactly its calls answer, whatever its nodes hold. Assumes nothing.
-use Rattle.std.specs.Prelude.{◌≡◌, ℕ, ◌+◌, ◌-◌, ◌/◌, ◌<◌, ◌≤◌, Bool, true, false, cond, ◌&&◌, List, [], ◌∷◌, map, length, drop, take, Some, None, Ok, Err, vec_items, sum_by, Option, Result, ◌==◌, ◌≢◌, nat_eq, nat_lt, ◌⊎◌}
+use Rattle.std.specs.Prelude.{◌≡◌, ℕ, ◌+◌, ◌-◌, ◌/◌, ◌<◌, ◌≤◌, Bool, true, false, cond, ◌&&◌, List, [], ◌∷◌, map, length, drop, take, Some, None, Ok, Err, vec_items, sum_by, Option, Result, ◌==◌, ◌≢◌, nat_eq, nat_lt, ◌⊎◌, slice_set}
 use Rattle.resources.specs.declared.cause.Cause.{Cause}
 use Rattle.resources.specs.declared.cause.Cause.TheVariants.{NoSpace, Misuse}
 use Rattle.stores.specs.declared.node.Node.{Node}
 use Rattle.stores.specs.declared.node.Entry.{Entry}
 use Rattle.stores.specs.declared.directory.Directory.{Directory}
 use Rattle.resources.specs.Files.{File, Files, live_at, batch_at, length_ok, may_append, CreateLawful, create_after, FinishLawful, finish_after, remove_after, Ask, create, append, finish, read, remove, Reply, number, numbered, done, failed, finished}
-use Rattle.stores.specs.Chains.{node, entry, held, free_node, Blank}
+use Rattle.stores.specs.Chains.{node, entry, held, closed, free_node, Blank}
 
 -- the files in use, in the order of their creation
 abbrev pub in_use : List Entry → ℕ → List Entry
@@ -96,6 +96,7 @@ dir_view d v space = record { files = dir_files d v; load = dir_load d v; new = 
 -- a directory without files, and with n nodes
 pub record Opened (n : ℕ) (d : Directory) : Type 0 where
   pub count : d.count ≡ 0
+  pub next : d.next ≡ 257
   pub size : length (vec_items d.nodes) ≡ n
   pub blank : Blank n d.entries
   pub free : (b : ℕ) → b < n → node (vec_items d.nodes) b ≡ free_node b
@@ -108,23 +109,34 @@ FitFor each w n = (w ≤ 262144) × (n ≡ w / each)
 abbrev pub UnfitFor : ℕ → ℕ → ℕ → Type 0
 UnfitFor each w n = (262144 < w) ⊎ (n ≢ w / each)
 
--- a create, whatever the nodes hold
+-- a create: the next entry goes into use, if there is one, whatever the nodes hold
 pub record Creates (d : Directory) (r : Result ℕ Cause) (t : Directory) : Type 0 where
+  pub made : r ≡ cond (nat_lt d.count 256) (Ok (entry d.entries (d.count + 1)).number) (Err NoSpace)
+  pub count : t.count ≡ cond (nat_lt d.count 256) (d.count + 1) d.count
+  pub entries : t.entries ≡ d.entries
+  pub nodes : vec_items t.nodes ≡ vec_items d.nodes
+  pub next : t.next ≡ d.next
   pub lawful : (v : ℕ → Node → List ℕ) → CreateLawful (dir_files d v) r
   pub after : (v : ℕ → Node → List ℕ) → dir_files t v ≡ create_after (dir_files d v) r
   pub reply : (v : ℕ → Node → List ℕ) (space : List ℕ → Bool) → numbered r ≡ answer (dir_view d v space) create
   pub load : (v : ℕ → Node → List ℕ) → dir_load t v ≡ load_after (dir_load d v) (dir_files d v) create (numbered r)
-  pub nodes : vec_items t.nodes ≡ vec_items d.nodes
-  pub free : (entry t.entries 0).len ≡ (entry d.entries 0).len
 
--- a finish, whatever the nodes hold
+-- only the entry of the file n is marked, or none
+abbrev pub Marks : {U : Type 0} → Directory → ℕ → Result U Cause → List Entry → Type 0
+Marks d n (Ok u) ds = (i : ℕ) × (0 < i) × (i ≤ d.count) × ((entry d.entries i).number ≡ n) × (ds ≡ slice_set d.entries i (closed (entry d.entries i)))
+Marks d n (Err c) ds = ds ≡ d.entries
+
+-- a finish: the file's entry is marked, if it is open, whatever the nodes hold
 pub record Finishes (d : Directory) (n : ℕ) {U : Type 0} (r : Result U Cause) (t : Directory) : Type 0 where
+  pub marks : Marks d n r t.entries
+  pub count : t.count ≡ d.count
+  pub nodes : vec_items t.nodes ≡ vec_items d.nodes
+  pub next : t.next ≡ d.next
+  pub free : (entry t.entries 0).len ≡ (entry d.entries 0).len
   pub lawful : (v : ℕ → Node → List ℕ) → FinishLawful (dir_files d v) n r
   pub after : (v : ℕ → Node → List ℕ) → dir_files t v ≡ finish_after (dir_files d v) n r
   pub reply : (v : ℕ → Node → List ℕ) (space : List ℕ → Bool) → finished r ≡ answer (dir_view d v space) (finish n)
   pub load : (v : ℕ → Node → List ℕ) → dir_load t v ≡ dir_load d v
-  pub nodes : vec_items t.nodes ≡ vec_items d.nodes
-  pub free : (entry t.entries 0).len ≡ (entry d.entries 0).len
 
 -- a remove, whatever the nodes hold: r says whether there was such a file, and no node has more words than it had
 pub record Removes (d : Directory) (n : ℕ) (r : Bool) (t : Directory) : Type 0 where

@@ -26,7 +26,8 @@ pub(crate) struct Directory {
     pub(crate) entries: [Entry; ENTRIES],
     // how many files are in use
     pub(crate) count: usize,
-    // the number for the next entry that is freed; past 32 bits there is none
+    // The number for the next entry that is freed.
+    // No `Option<u32>`: 2^32 is the end of the numbers, and `u32::try_from` tells whether one is left.
     pub(crate) next: u64,
     ghost order: { Order nodes.items entries count next },
 }

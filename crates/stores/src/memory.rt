@@ -3,6 +3,8 @@ ghost use Rattle.std.specs.Prelude.{◌≡◌, ◌+◌, ◌≤◌, ◌++◌, len
 ghost use Rattle.std.proofs.Math.Seq.{paste};
 ghost use Rattle.stores.specs.Stores.{zeroed, recorded};
 
+use crate::log::RECORD_HEAD;
+
 #[derive(Drop)]
 pub(crate) struct Memory {
     pub(crate) words: Vec<u64>,
@@ -42,7 +44,7 @@ impl Memory {
         let n = batch.len();
         self.words[at] = u64::from(file);
         self.words[at + 1] = n as u64;
-        self.lay(at + 2, batch);
-        self.mark(at + 2 + n);
+        self.lay(at + RECORD_HEAD, batch);
+        self.mark(at + RECORD_HEAD + n);
     }
 }

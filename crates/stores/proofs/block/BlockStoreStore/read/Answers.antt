@@ -4,7 +4,7 @@ use Rattle.std.proofs.lemmas.Result.{err_from_is_err_and}
 use Rattle.stores.specs.Stores.{block_val, block_files}
 use Rattle.stores.proofs.Chaining.{node_read}
 use Rattle.stores.proofs.Filing.{located_some, located_none}
-use Rattle.stores.proofs.Blocking.{read_in, read_value}
+use Rattle.stores.proofs.Blocking.{read_value}
 use Rattle.stores.proofs.Replies.{read_none, read_some}
 use Rattle.stores.proofs.block.BlockStoreStore.read.Goals as goal
 

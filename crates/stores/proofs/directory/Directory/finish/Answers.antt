@@ -14,4 +14,4 @@ pub invariant_of-self : goal.invariant_of-self
 invariant_of-self c = record { order = finish_order c.args.self.now.order c.in_ok-i.i c.in_ok-i.ensures.0 c.in_ok-i.ensures.1 }
 
 pub returns : goal.returns
-returns c = finishes c.args.self.now _ c.in_ok-i.i c.args.file c.in_ok-i.ensures refl refl refl
+returns c = finishes c.args.self.now _ c.in_ok-i.i c.args.file c.in_ok-i.ensures refl refl refl refl

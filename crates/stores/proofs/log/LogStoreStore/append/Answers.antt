@@ -2,8 +2,8 @@
 use Rattle.std.proofs.Common.{◌+◌, ◌≤◌, length, vec_items, refl, arith}
 use Rattle.std.proofs.lemmas.Result.{err_from_is_err_and}
 use Rattle.stores.specs.Stores.{log_val, log_view, log_words}
-use Rattle.stores.proofs.Logging.{room_none, room_some, log_append, append-keeps, node_free}
-use Rattle.stores.proofs.Replies.{no_append, no_space, appends, may, length_small, length_some}
+use Rattle.stores.proofs.Logging.{room_some, log_append, append-keeps}
+use Rattle.stores.proofs.Replies.{no_append, appends, may, length_small, length_some}
 use Rattle.stores.proofs.log.LogStoreStore.append.Goals as goal
 
 pub returns-in_err-i : goal.returns-in_err-i

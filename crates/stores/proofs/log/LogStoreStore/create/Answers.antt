@@ -1,11 +1,13 @@
 -- The directory's create; no node changes.
-use Rattle.std.proofs.Common.{refl}
+use Rattle.std.proofs.Common.{List, refl, ap}
+use Rattle.stores.specs.declared.node.Entry.{Entry}
+use Rattle.stores.specs.Chains.{entry}
 use Rattle.stores.specs.Stores.{log_val, log_view, log_words}
 use Rattle.stores.proofs.Logging.{keeps_same}
 use Rattle.stores.proofs.log.LogStoreStore.create.Goals as goal
 
 pub invariant_of-self : goal.invariant_of-self
-invariant_of-self c = record { run = keeps_same c.args.self.now c.create.new.self c.create.ensures.nodes c.create.ensures.free }
+invariant_of-self c = record { run = keeps_same c.args.self.now c.create.new.self c.create.ensures.nodes (ap (λ (x : List Entry). (entry x 0).len) c.create.ensures.entries) }
 
 pub returns : goal.returns
 returns c =

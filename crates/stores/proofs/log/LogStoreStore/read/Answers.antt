@@ -4,7 +4,7 @@ use Rattle.std.proofs.lemmas.Result.{err_from_is_err_and}
 use Rattle.stores.specs.Stores.{log_val, log_files, log_words}
 use Rattle.stores.proofs.Chaining.{node_read}
 use Rattle.stores.proofs.Filing.{located_some, located_none}
-use Rattle.stores.proofs.Logging.{record_in, record_short, record_value}
+use Rattle.stores.proofs.Logging.{record_value}
 use Rattle.stores.proofs.Replies.{read_none, read_some}
 use Rattle.stores.proofs.log.LogStoreStore.read.Goals as goal
 

@@ -1,8 +1,6 @@
 -- There was no such file; or it goes, and the run restarts if it was the last.
-use Rattle.std.proofs.Common.{◌≡◌, true, false, vec_items, sym, refl, ◌∙◌}
-use Rattle.std.proofs.lemmas.Bool.{cond-true, cond-false, eq-eqb, ne_eqb}
-use Rattle.stores.specs.Filed.{restarts}
-use Rattle.stores.specs.Stores.{log_val, log_files, log_load, log_words}
+use Rattle.std.proofs.Common.{vec_items, ◌∙◌}
+use Rattle.stores.specs.Stores.{log_val, log_words}
 use Rattle.stores.proofs.Logging.{remove-keeps, restart_keeps, empty_files}
 use Rattle.stores.proofs.log.LogStoreStore.remove.Goals.{else-remove-via-then-remove+else-self-eq0, else-remove-via-else-remove}
 use Rattle.stores.proofs.log.LogStoreStore.remove.Goals as goal
@@ -24,6 +22,6 @@ returns-then-self-eq0-clause-after c =
 pub returns-else-remove-clause-after : goal.returns-else-remove-clause-after
 returns-else-remove-clause-after c =
     elim c.else-remove.branch [
-      else-remove-via-then-remove+else-self-eq0 w ↦ rw w.self-is (w.if-remove.ensures.after (log_val (log_words c.args.self.now)))
+      | else-remove-via-then-remove+else-self-eq0 w ↦ rw w.self-is (w.if-remove.ensures.after (log_val (log_words c.args.self.now)))
       | else-remove-via-else-remove w ↦ rw w.self-is (w.if-remove.ensures.after (log_val (log_words c.args.self.now)))
     ]
