@@ -53,7 +53,7 @@ impl Node {
 
 #[derive(Clone, Copy, PartialEq, Eq, Debug)]
 pub(crate) struct Entry {
-    // the number of the file, or 0 for what is free
+    // the number of the file, or 0 for what is free: no `Option`, since nodes go from and to that chain as from and to a file's
     pub(crate) number: u32,
     pub(crate) live: bool,
     // the last node of the chain, and how many there are
