@@ -1,9 +1,8 @@
 -- What the steps of a directory do to the files, whatever the nodes hold. Assumes nothing.
-use Rattle.std.proofs.Common.{◌≡◌, ℕ, zero, suc, ◌+◌, ◌-◌, ◌<◌, ◌≤◌, Bool, true, false, eqb, ◌⊎◌, List, [], ◌∷◌, ◌++◌, length, set, Some, None, Ok, Err, Option, sym, refl, ap, ◌∙◌, subst, inl, inr, ⊎_elim, arith}
+use Rattle.std.proofs.Common.{◌≡◌, ℕ, ◌+◌, ◌-◌, ◌<◌, ◌≤◌, Bool, true, false, cond, eqb, List, [], ◌∷◌, ◌++◌, length, set, Some, None, Ok, Err, Option, sym, refl, ap, ◌∙◌, subst, ⊎_elim, arith}
 use mathlib.Core.Path.{fun_ext}
 use Rattle.std.proofs.lemmas.List.{length_push}
 use Rattle.std.proofs.lemmas.Option.{slice_get-get_or, slice_get_past}
-use Rattle.stores.proofs.Lookups.{put_twice}
 use Rattle.std.proofs.lemmas.Bool.{cases_eq, cond-true, cond-false, eq-eqb, ne_eqb}
 use Rattle.resources.specs.declared.cause.Cause.{Cause}
 use Rattle.stores.specs.declared.node.Node.{Node}
@@ -14,35 +13,22 @@ use Rattle.stores.specs.Filed.{file_of, files_of, files_in, load_of, without}
 use Rattle.stores.proofs.Chaining.{length-walk, walk_at}
 use Rattle.stores.proofs.Shifting.{Moves, moves_of, shift_order, node_here, node_other, number_same, live_same, walk_other, walk_to}
 use Rattle.stores.proofs.Entries.{entry_closed, entry_kept, kept_of, finish_order}
-use Rattle.stores.proofs.Tables.{find_at, find_none, files_put, load_files, load_batches, files_drop, load_drop}
+use Rattle.stores.proofs.Tables.{present, file_at, find_none, files_put, load_files, load_batches, files_drop, load_drop}
 
--- an entry in use has the number, or none has
-pub present : (es : List Entry) (n k : ℕ) → ((i : ℕ) × (0 < i) × (i ≤ k) × ((entry es i).number ≡ n)) ⊎ ((j : ℕ) → 0 < j → j ≤ k → (entry es j).number ≡ n → ⊥)
-present es n zero = inr (λ j lo le e. omega arith)
-present es n (suc k) =
-    ⊎_elim
-    (λ (e : (entry es (suc k)).number ≡ n). inl (suc k, omega arith, omega arith, e))
-    (λ (h : (entry es (suc k)).number ≡ n → ⊥).
-    ⊎_elim
-    (λ r. inl (r.0, r.1, omega (arith, r.2), r.3))
-    (λ (g : (j : ℕ) → 0 < j → j ≤ k → (entry es j).number ≡ n → ⊥).
-    inr (λ j lo le e. ⊎_elim (λ (u : j ≡ suc k). h (ap (λ (x : ℕ). (entry es x).number) (sym u) ∙ e)) (λ (u : j ≡ suc k → ⊥). g j lo (omega arith) e) (cases_eq j (suc k))))
-    (present es n k))
-    (cases_eq (entry es (suc k)).number n)
+-- what is put twice is what was put last
+put_twice : (n m : ℕ) (a b s : Option File) → cond (eqb m n) a (cond (eqb m n) b s) ≡ cond (eqb m n) a s
+put_twice n m a b s = elim (eqb m n) as (λ t. cond t a (cond t b s) ≡ cond t a s) [ true ↦ refl | false ↦ refl ]
 
 module _ {ns : List Node} {es : List Entry} {count next : ℕ} (o : Order ns es count next) (v : ℕ → Node → List ℕ) where
-  pub file_at : (i n : ℕ) → 0 < i → i ≤ count → (entry es i).number ≡ n → files_in ns v es count n ≡ Some (file_of ns v (entry es i))
-  file_at i n lo le e = ap (files_in ns v es count) (sym e) ∙ find_at o v i lo le
-
   -- a file that is open
   pub live_at_lem : (i n : ℕ) → 0 < i → i ≤ count → (entry es i).number ≡ n → (entry es i).live ≡ true → live_at (files_in ns v es count n) ≡ true
-  live_at_lem i n lo le e l = ap live_at (file_at i n lo le e) ∙ l
+  live_at_lem i n lo le e l = ap live_at (file_at o v i n lo le e) ∙ l
 
   -- no file, or one that is finished
   pub not_live : (n : ℕ) → ((j : ℕ) → 0 < j → j ≤ count → (entry es j).number ≡ n → (entry es j).live ≡ false) → live_at (files_in ns v es count n) ≡ false
   not_live n h =
       ⊎_elim
-      (λ r. ap live_at (file_at r.0 n r.1 r.2 r.3) ∙ h r.0 r.1 r.2 r.3)
+      (λ r. ap live_at (file_at o v r.0 n r.1 r.2 r.3) ∙ h r.0 r.1 r.2 r.3)
       (λ g. ap live_at (find_none o v n g))
       (present es n count)
 
@@ -52,7 +38,7 @@ module _ {ns : List Node} {es : List Entry} {count next : ℕ} (o : Order ns es 
       let val : ℕ → List ℕ = λ c. v c (node ns c) in
       let w = held ns v (entry es i) in
       let lw : length w ≡ (entry es i).len = length-walk ns s.backed (λ c. (node ns c).back) val (entry es i).last (entry es i).len in
-      ap (λ (f : Option File). batch_at f k) (file_at i n lo le e)
+      ap (λ (f : Option File). batch_at f k) (file_at o v i n lo le e)
       ∙ slice_get-get_or w k [] (omega arith)
       ∙ ap Some (walk_at ns s.backed s.single val (entry es i).number k b lb (ob ∙ sym e) pb (entry es i).len (entry es i).last (s.lasts i (omega (arith, o.table, o.few))) lk)
 
@@ -62,7 +48,7 @@ module _ {ns : List Node} {es : List Entry} {count next : ℕ} (o : Order ns es 
       (λ r.
       let w = held ns v (entry es r.0) in
       let lw : length w ≡ (entry es r.0).len = length-walk ns o.sound.backed (λ c. (node ns c).back) (λ c. v c (node ns c)) (entry es r.0).last (entry es r.0).len in
-      ap (λ (f : Option File). batch_at f k) (file_at r.0 n r.1 r.2 r.3) ∙ slice_get_past w k (omega (arith, h r.0 r.1 r.2 r.3)))
+      ap (λ (f : Option File). batch_at f k) (file_at o v r.0 n r.1 r.2 r.3) ∙ slice_get_past w k (omega (arith, h r.0 r.1 r.2 r.3)))
       (λ g. ap (λ (f : Option File). batch_at f k) (find_none o v n g))
       (present es n count)
 
@@ -106,7 +92,7 @@ module _ {ns : List Node} {es : List Entry} {count next : ℕ} (o : Order ns es 
       ∙ ap (put (files_in ns v es count) (entry es i).number)
       (ap (λ (b : Bool). Some (record { live = b; batches = held ms v' (entry ds i) })) (live_same mv start m i)
       ∙ ap (λ (x : List (List ℕ)). Some (record { live = (entry es i).live; batches = x })) held_more
-      ∙ ap (λ (f : Option File). extended f ws) (sym (find_at o v i lo le)))
+      ∙ ap (λ (f : Option File). extended f ws) (sym (file_at o v i _ lo le refl)))
 
   load_appended : load_of (files_of ms v' ds count) ≡ record (load_of (files_of ns v es count)) { batches = (load_of (files_of ns v es count)).batches + 1 }
   load_appended =
@@ -139,7 +125,7 @@ module _ {ns : List Node} {es : List Entry} {count next : ℕ} (o : Order ns es 
   pub finish_files : (n : ℕ) → (entry es i).number ≡ n → files_in ns v qs count ≡ put (files_in ns v es count) n (shut (files_in ns v es count n))
   finish_files n g =
       files_put o v (finish_order o i lo le) v number_kept i lo le others_kept
-      ∙ ap (put (files_in ns v es count) (entry es i).number) (ap (λ (x : Entry). Some (file_of ns v x)) (entry_closed o i lo le) ∙ ap shut (sym (find_at o v i lo le)))
+      ∙ ap (put (files_in ns v es count) (entry es i).number) (ap (λ (x : Entry). Some (file_of ns v x)) (entry_closed o i lo le) ∙ ap shut (sym (file_at o v i _ lo le refl)))
       ∙ ap (λ (k : ℕ). put (files_in ns v es count) k (shut (files_in ns v es count k))) g
 
   pub finish_load : load_of (files_of ns v qs count) ≡ load_of (files_of ns v es count)

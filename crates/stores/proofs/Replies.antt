@@ -11,8 +11,8 @@ use Rattle.resources.specs.Files.{Files, live_at, length_ok, may_append, batch_a
 use Rattle.stores.specs.Chains.{node, entry, closed, closed_up, Cleared, Order, Sought, SoughtOpen}
 use Rattle.stores.specs.Filed.{files_of, files_in, load_of, restarts, answer, read_reply, dir_files, dir_load, dir_view, OpensFor, Creates, Finishes, Removes}
 use Rattle.stores.proofs.Entries.{finish_free}
-use Rattle.stores.proofs.Tables.{files_long, files_create, load_create, new_none, new_above, new_below, find_none}
-use Rattle.stores.proofs.Filing.{live_at_lem, not_live, file_at, finish_files, finish_load, remove_files, remove-none}
+use Rattle.stores.proofs.Tables.{files_long, files_create, load_create, new_none, new_above, new_below, file_at, find_none}
+use Rattle.stores.proofs.Filing.{live_at_lem, not_live, finish_files, finish_load, remove_files, remove-none}
 
 module _ (d : Directory) (v : ℕ → Node → List ℕ) (space : List ℕ → Bool) where
   -- an append that is not allowed, one without space, and one with space
