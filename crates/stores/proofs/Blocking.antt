@@ -8,24 +8,24 @@ use Rattle.stores.specs.declared.node.Node.{Node}
 use Rattle.stores.specs.declared.node.Entry.{Entry}
 use Rattle.stores.specs.declared.block.BlockStore.{BlockStore}
 use Rattle.resources.specs.Files.{put, extended}
-use Rattle.stores.specs.Chains.{node, blank_node, entry, linked, shifted_nodes, shifted_entries, jump_of, Short, Cleared}
-use Rattle.stores.specs.Stores.{files_of, files_in, load_of, block_val, block_files, block_load, blocks}
-use Rattle.stores.proofs.Orders.{Order, order_of}
+use Rattle.stores.specs.Chains.{node, blank_node, entry, linked, shifted_nodes, shifted_entries, jump_of, Short}
+use Rattle.stores.specs.Filed.{files_of, files_in, load_of}
+use Rattle.stores.specs.Stores.{block_val, block_files, block_load, blocks}
 use Rattle.stores.proofs.Layings.{laid_here, laid_below, laid_above, stretch_same}
 use Rattle.stores.proofs.Tables.{all_nodes}
 use Rattle.stores.proofs.Filing.{append_files}
 
 -- a batch finds space exactly while a block is free
 pub space_none : (s : BlockStore) → (entry s.dir.entries 0).len ≡ 0 → ltb (block_load s).batches (blocks s) ≡ false
-space_none s z = le-ltb _ _ (omega (arith, all_nodes _ _ _ _ (block_val (vec_items s.memory.words)) (order_of s.dir)))
+space_none s z = le-ltb _ _ (omega (arith, all_nodes s.dir.order (block_val (vec_items s.memory.words))))
 
 pub space_some : (s : BlockStore) → 0 < (entry s.dir.entries 0).len → ltb (block_load s).batches (blocks s) ≡ true
-space_some s h = lt-ltb _ _ (omega (arith, all_nodes _ _ _ _ (block_val (vec_items s.memory.words)) (order_of s.dir)))
+space_some s h = lt-ltb _ _ (omega (arith, all_nodes s.dir.order (block_val (vec_items s.memory.words))))
 
 -- the first free block lies in the memory
 pub block_in : (s : BlockStore) (n : ℕ) → 0 < (entry s.dir.entries 0).len → n ≤ 64 → (entry s.dir.entries 0).last * 64 + n ≤ length (vec_items s.memory.words)
 block_in s n h l =
-    let b = s.dir.lastin 0 (omega (arith, s.dir.table), h) in
+    let b = (s.dir.order.sound.lasts 0 (omega (arith, s.dir.order.table)) h).0 in
     omega (arith, s.room)
 
 -- other blocks keep their words
@@ -42,22 +42,16 @@ module _ (s : BlockStore) (i n : ℕ) (ws m : List ℕ) (lo : 0 < i) (le : i ≤
     (laid : m ≡ paste (vec_items s.memory.words) ((entry s.dir.entries 0).last * 64) ws (length ws)) (ps : List Node) (qs : List Entry)
     (nodes : ps ≡ shifted_nodes (vec_items s.dir.nodes) s.dir.entries 0 i (jump_of (vec_items s.dir.nodes) s.dir.entries 0 i) 0 (length ws))
     (entries : qs ≡ shifted_entries (vec_items s.dir.nodes) s.dir.entries 0 i) (number : (entry s.dir.entries i).number ≡ n) where
-  pub block_append : (next : ℕ) → Order ps qs s.dir.count next →
-      (files_in ps (block_val m) qs s.dir.count ≡ put (block_files s) n (extended (block_files s n) ws)) × (load_of (files_of ps (block_val m) qs s.dir.count) ≡ record { files = (block_load s).files; batches = (block_load s).batches + 1 })
-  block_append next o' =
+  pub block_append : {count' : ℕ} → count' ≡ s.dir.count →
+      (files_in ps (block_val m) qs count' ≡ put (block_files s) n (extended (block_files s n) ws)) × (load_of (files_of ps (block_val m) qs count') ≡ record (block_load s) { batches = (block_load s).batches + 1 })
+  block_append e =
       let w = vec_items s.memory.words in
       let b = (entry s.dir.entries 0).last in
       let fits = block_in s (length ws) some short in
-      append_files (vec_items s.dir.nodes) s.dir.entries s.dir.count s.dir.next (order_of s.dir) (block_val w) (block_val m) i 0 (length ws) ws lo le some
+      append_files s.dir.order (block_val w) (block_val m) i 0 (length ws) ws lo le some
       (λ c l h. ap (λ (x : List ℕ). take (node (vec_items s.dir.nodes) c).length (drop (c * 64) x)) laid ∙ block_other w b c _ ws fits short (s.short c l) h)
       (ap (λ (x : List ℕ). take (length ws) (drop (b * 64) x)) laid ∙ laid_here w (b * 64) ws (length ws) refl fits)
-      ps qs n nodes entries number next o'
-
-  pub block_append_is : (count' next : ℕ) → count' ≡ s.dir.count → Order ps qs count' next →
-      (files_in ps (block_val m) qs count' ≡ put (block_files s) n (extended (block_files s n) ws)) × (load_of (files_of ps (block_val m) qs count') ≡ record { files = (block_load s).files; batches = (block_load s).batches + 1 })
-  block_append_is count' next e o' =
-      let r = block_append next (subst (λ (x : ℕ). Order ps qs x next) e o') in
-      (ap (λ (x : ℕ). files_in ps (block_val m) qs x) e ∙ r.0, ap (λ (x : ℕ). load_of (files_of ps (block_val m) qs x)) e ∙ r.1)
+      n nodes entries e number
 
 -- after a shift the batches are still short, and there are as many nodes
 pub short_set : (ns : List Node) (b : ℕ) (d : Node) → Short ns → b < length ns → d.length ≤ 64 → Short (set ns b d)
@@ -68,22 +62,13 @@ short_set ns b d h l m c lc =
     (cases_eq c b)
 
 pub shift_keeps : (s : BlockStore) (i : ℕ) (ws m : List ℕ) → 0 < (entry s.dir.entries 0).len → length ws ≤ 64 → length m ≡ length (vec_items s.memory.words) → (ps : List Node) →
-    ps ≡ shifted_nodes (vec_items s.dir.nodes) s.dir.entries 0 i (jump_of (vec_items s.dir.nodes) s.dir.entries 0 i) 0 (length ws) → (length ps * 64 ≤ length m) × (Short ps × Unit {0})
+    ps ≡ shifted_nodes (vec_items s.dir.nodes) s.dir.entries 0 i (jump_of (vec_items s.dir.nodes) s.dir.entries 0 i) 0 (length ws) → (length ps * 64 ≤ length m) × Short ps
 shift_keeps s i ws m some short long ps e =
-    let b = s.dir.lastin 0 (omega (arith, s.dir.table), some) in
+    let b = (s.dir.order.sound.lasts 0 (omega (arith, s.dir.order.table)) some).0 in
     let ns = vec_items s.dir.nodes in
     let d = linked (entry s.dir.entries i) (entry s.dir.entries 0).last (jump_of ns s.dir.entries 0 i) 0 (length ws) in
     let lp : length ps ≡ length ns = ap length e ∙ length-set ns _ d in
-    (omega (arith, s.room), (subst Short (sym e) (short_set ns _ d s.short b short), tt))
-
--- clearing leaves them short
-pub clear_keeps : (s : BlockStore) (i : ℕ) (ps : List Node) (qs : List Entry) → Cleared (vec_items s.dir.nodes) s.dir.entries i ps qs → (length ps * 64 ≤ length (vec_items s.memory.words)) × (Short ps × Unit {0})
-clear_keeps s i ps qs h =
-    (omega (arith, s.room, h.nodes), ((λ b l. omega (arith, (h.words b).0, s.short b (omega (arith, h.nodes)))), tt))
-
--- the same nodes
-pub same_keeps : (s : BlockStore) (ps : List Node) → ps ≡ vec_items s.dir.nodes → (length ps * 64 ≤ length (vec_items s.memory.words)) × (Short ps × Unit {0})
-same_keeps s ps e = (omega (arith, s.room, ap length e), (subst Short (sym e) s.short, tt))
+    (omega (arith, s.room), subst Short (sym e) (short_set ns _ d s.short b short))
 
 -- a block of the store lies in the memory
 pub read_in : (s : BlockStore) (b : ℕ) (d : Node) → b < length (vec_items s.dir.nodes) → d ≡ node (vec_items s.dir.nodes) b → (b * 64 + d.length ≤ length (vec_items s.memory.words)) × (d.length ≤ 64)

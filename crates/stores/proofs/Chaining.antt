@@ -1,11 +1,15 @@
 -- Entries by number, and what a chain holds. Assumes nothing.
 use Rattle.std.proofs.Common.{◌≡◌, ℕ, zero, suc, ◌+◌, ◌-◌, ◌<◌, ◌≤◌, true, false, eqb, List, [], ◌∷◌, ◌++◌, length, get_or, sym, refl, ap, ◌∙◌, subst, ⊎_elim, arith}
 use native.Mathlib.Nat.{suc_inj}
-use Rattle.std.proofs.lemmas.List.{get_or_append_left, get_or_push, length_push}
+use Rattle.std.proofs.lemmas.List.{get_or_read, get_or_append_left, get_or_push, length_push}
 use Rattle.std.proofs.lemmas.Bool.{eq-eqb, ne_eqb, cond-true, cond-false, cases_eq, eqb-true, cases_Bool}
 use Rattle.stores.specs.declared.node.Node.{Node}
 use Rattle.stores.specs.declared.node.Entry.{Entry}
-use Rattle.stores.specs.Chains.{node, entry, len_of, walk, Apart, Sound}
+use Rattle.stores.specs.Chains.{node, entry, blank_node, len_of, walk, Apart, Sound}
+
+-- a node that was read
+pub node_read : (ns : List Node) {b : ℕ} {x : Node} → b < length ns → x ≡ get_or ns b x → x ≡ node ns b
+node_read ns {b} {x} l e = get_or_read ns b x l e blank_node
 
 -- apart entries, the first taken away
 apart_rest : (e : Entry) (es : List Entry) → Apart [] (e ∷ es) → Apart [] es
@@ -31,21 +35,21 @@ len_of_some (e ∷ es) n l =
     (suc r.0, omega (arith, r.1), r.2))
     (cases_Bool (eqb e.number n))
 
-module _ (ns : List Node) (es : List Entry) (s : Sound ns es) where
+module _ {ns : List Node} {es : List Entry} (s : Sound ns es) where
   -- the entry of a node
   pub owner_entry : (b : ℕ) → b < length ns → (i : ℕ) × (i < length es) × ((entry es i).number ≡ (node ns b).owner) × ((node ns b).place < (entry es i).len)
   owner_entry b l =
-      let o = s.0 b l in
+      let o = s.owned b l in
       let r = len_of_some es (node ns b).owner (omega arith) in
       let i = r.0 in
-      let e : len_of es (node ns b).owner ≡ (entry es i).len = ap (len_of es) (sym r.2) ∙ len_of-at es i s.5 r.1 in
+      let e : len_of es (node ns b).owner ≡ (entry es i).len = ap (len_of es) (sym r.2) ∙ len_of-at es i s.apart r.1 in
       (i, r.1, r.2, subst (λ (u : ℕ). (node ns b).place < u) e o)
 
   -- a node of the entry i stands in its chain
   pub place_below : (b i : ℕ) → b < length ns → i < length es → (node ns b).owner ≡ (entry es i).number → (node ns b).place < (entry es i).len
   place_below b i l li e =
-      let o = s.0 b l in
-      subst (λ (u : ℕ). (node ns b).place < u) (ap (len_of es) e ∙ len_of-at es i s.5 li) o
+      let o = s.owned b l in
+      subst (λ (u : ℕ). (node ns b).place < u) (ap (len_of es) e ∙ len_of-at es i s.apart li) o
 
 -- a node whose owner is an entry's, in good order by index
 pub owned_from : (es : List Entry) (n p i : ℕ) → Apart [] es → i < length es → (entry es i).number ≡ n → p < (entry es i).len → p < len_of es n

@@ -1,27 +1,17 @@
 -- Changes of the table of entries. Assumes nothing.
-use Rattle.std.proofs.Common.{◌≡◌, ℕ, suc, ◌+◌, ◌-◌, ◌^◌, ◌<◌, ◌≤◌, ltb, List, [], ◌∷◌, length, take, drop, set, sum_by, sym, refl, ap, ◌∙◌, subst, ⊎_elim, add-one, arith, length-set}
+use Rattle.std.proofs.Common.{◌≡◌, ℕ, suc, ◌+◌, ◌-◌, ◌^◌, ◌<◌, ◌≤◌, ltb, List, [], ◌∷◌, ◌++◌, length, take, drop, set, sum_by, sym, refl, ap, ◌∙◌, subst, ⊎_elim, add-one, arith, length-set}
 use Rattle.std.specs.List.{remove}
-use Rattle.std.proofs.lemmas.List.{get_or-set_same, get_or-set_other, ext_get_or, get_or_append_left, get_or_push, length_push, drop_more}
+use borrow.Rule.Slice.PartMut.{put_mid, mid_of}
+use Rattle.std.proofs.lemmas.Slice.{put_mid-rotated}
+use Rattle.std.proofs.lemmas.List.{set_at, get_or-set_same, get_or-set_other, get_or_append_left, get_or_push, length_push, drop_more}
 use Rattle.std.proofs.lemmas.List.Edits.{get_or-remove_below, get_or-remove_above, length-remove}
 use Rattle.std.proofs.lemmas.List.Sums.{sum_by-set, sum_by-append, sum_by_push, sum_by-take-drop, sum_by-cons}
 use Rattle.std.proofs.lemmas.Bool.{cases_eq, cases_lt, cond_both, ltb-true, cond-true, cond-false, lt-ltb, le-ltb}
 use Rattle.stores.specs.declared.node.Node.{Node}
 use Rattle.stores.specs.declared.node.Entry.{Entry}
-use Rattle.stores.specs.Chains.{node, entry, blank_entry, Owned, Lasts, Apart, Full, Sound, Numbers, closed, closed_up, spare, renewed, next_after, shifted_nodes, shifted_entries, jump_of, Cleared}
+use Rattle.stores.specs.Chains.{node, entry, blank_entry, Owned, Lasts, Apart, Full, closed, closed_up, spare, renewed, next_after, shifted_nodes, shifted_entries, jump_of, Cleared, Order}
 use Rattle.stores.proofs.Chaining.{owner_entry, owned_from}
-use Rattle.stores.proofs.Shifting.{jump_ok, nodes_long, entries_long, node_here, node_other, number_same, live_same, walk_other}
-use Rattle.stores.proofs.Orders.{Order, sound_of, order_from}
-
-pub close_more_below : (old es : List Entry) (i j : ℕ) (e : Entry) → i ≤ j → ((k : ℕ) → k < i → entry es k ≡ entry old k) → (k : ℕ) → k < i → entry (set es j e) k ≡ entry old k
-close_more_below old es i j e le h k l = get_or-set_other es j k _ _ (omega arith) ∙ h k l
-
-pub close_more_above : (old es : List Entry) (i j : ℕ) (e : Entry) → j < length es → e ≡ entry old (j + 1) → ((k : ℕ) → i ≤ k → k < j → entry es k ≡ entry old (k + 1)) →
-    (k : ℕ) → i ≤ k → k < j + 1 → entry (set es j e) k ≡ entry old (k + 1)
-close_more_above old es i j e lj is h k le l =
-    ⊎_elim
-    (λ (u : k ≡ j). subst (λ (x : ℕ). entry (set es j e) x ≡ entry old (x + 1)) (sym u) (get_or-set_same es j e blank_entry lj ∙ is))
-    (λ (u : k ≡ j → ⊥). get_or-set_other es j k _ _ u ∙ h k le (omega arith))
-    (cases_eq k j)
+use Rattle.stores.proofs.Shifting.{Moves, moves_of, nodes_long, entries_long, node_here, node_other, number_same, live_same, walk_other}
 
 -- an entry of the table that closed up
 pub closed_below : (es : List Entry) (i n k : ℕ) → length es ≡ 257 → i < 257 → k < i → entry (closed_up es i n) k ≡ entry es k
@@ -44,38 +34,13 @@ closed_long es i n le li =
     let lr = length-remove es i (omega arith) in
     length_push (remove es i) (spare n) ∙ omega arith
 
-pub close_all : (old es : List Entry) (i n : ℕ) → length old ≡ 257 → length es ≡ 257 → i < 257 → ((k : ℕ) → k < i → entry es k ≡ entry old k) →
-    ((k : ℕ) → i ≤ k → k < 256 → entry es k ≡ entry old (k + 1)) → set es 256 (spare n) ≡ closed_up old i n
-close_all old es i n lo le li below above =
-    let long : length (set es 256 (spare n)) ≡ 257 = length-set es 256 _ ∙ le in
-    ext_get_or blank_entry (set es 256 (spare n)) (closed_up old i n) (long ∙ sym (closed_long old i n lo li))
-    (λ k l.
-    ⊎_elim
-    (λ (u : k ≡ 256). subst (λ (x : ℕ). entry (set es 256 (spare n)) x ≡ entry (closed_up old i n) x) (sym u) (get_or-set_same es 256 (spare n) blank_entry (omega arith) ∙ sym (closed_last old i n lo li)))
-    (λ (u : k ≡ 256 → ⊥).
-    get_or-set_other es 256 k _ _ u ∙
-    ⊎_elim
-    (λ (b : k < i). below k b ∙ sym (closed_below old i n k lo li b))
-    (λ (b : i ≤ k). above k b (omega arith) ∙ sym (closed_above old i n k lo li b (omega arith)))
-    (cases_lt k i))
-    (cases_eq k 256))
-
 -- an entry is finished
-module _ (ns : List Node) (es : List Entry) (count next i : ℕ) (o : Order ns es count next) (low : 0 < i) (le : i ≤ count) where
+module _ {ns : List Node} {es : List Entry} {count next : ℕ} (o : Order ns es count next) (i : ℕ) (low : 0 < i) (le : i ≤ count) where
   abbrev ds : List Entry
   ds = set es i (closed (entry es i))
 
-  s : Sound ns es
-  s = sound_of ns es count next o
-
-  table : length es ≡ 257
-  table = o.1.1.1.1.1.1.1.1.1.1.0
-
-  few : count ≤ 256
-  few = o.1.1.1.1.1.1.1.1.1.1.1.0
-
   li : i < length es
-  li = omega (arith, table, few)
+  li = omega (arith, o.table, o.few)
 
   pub entry_closed : entry ds i ≡ closed (entry es i)
   entry_closed = get_or-set_same es i _ _ li
@@ -83,69 +48,70 @@ module _ (ns : List Node) (es : List Entry) (count next i : ℕ) (o : Order ns e
   pub entry_kept : (j : ℕ) → (j ≡ i → ⊥) → entry ds j ≡ entry es j
   entry_kept j h = get_or-set_other es i j _ _ h
 
+  -- what the mark does not touch
+  pub kept_of : {X : Type 0} (f : Entry → X) → f (closed (entry es i)) ≡ f (entry es i) → (j : ℕ) → f (entry ds j) ≡ f (entry es j)
+  kept_of f h j =
+      ⊎_elim
+      (λ (e : j ≡ i). subst (λ (x : ℕ). f (entry ds x) ≡ f (entry es x)) (sym e) (ap f entry_closed ∙ h))
+      (λ (ne : j ≡ i → ⊥). ap f (entry_kept j ne))
+      (cases_eq j i)
+
   same_number : (j : ℕ) → (entry ds j).number ≡ (entry es j).number
-  same_number j = ⊎_elim (λ (e : j ≡ i). subst (λ (x : ℕ). (entry ds x).number ≡ (entry es x).number) (sym e) (ap (λ (x : Entry). x.number) entry_closed)) (λ (h : j ≡ i → ⊥). ap (λ (x : Entry). x.number) (entry_kept j h)) (cases_eq j i)
+  same_number = kept_of (λ x. x.number) refl
 
   same_last : (j : ℕ) → (entry ds j).last ≡ (entry es j).last
-  same_last j = ⊎_elim (λ (e : j ≡ i). subst (λ (x : ℕ). (entry ds x).last ≡ (entry es x).last) (sym e) (ap (λ (x : Entry). x.last) entry_closed)) (λ (h : j ≡ i → ⊥). ap (λ (x : Entry). x.last) (entry_kept j h)) (cases_eq j i)
+  same_last = kept_of (λ x. x.last) refl
 
   same_len : (j : ℕ) → (entry ds j).len ≡ (entry es j).len
-  same_len j = ⊎_elim (λ (e : j ≡ i). subst (λ (x : ℕ). (entry ds x).len ≡ (entry es x).len) (sym e) (ap (λ (x : Entry). x.len) entry_closed)) (λ (h : j ≡ i → ⊥). ap (λ (x : Entry). x.len) (entry_kept j h)) (cases_eq j i)
+  same_len = kept_of (λ x. x.len) refl
 
   long : length ds ≡ length es
   long = length-set es i _
 
   apart : Apart ns ds
-  apart j k (lj, lk, h) = s.5 j k (omega (arith, long), omega (arith, long), sym (same_number j) ∙ h ∙ same_number k)
+  apart j k (lj, lk, h) = o.sound.apart j k (omega (arith, long), omega (arith, long), sym (same_number j) ∙ h ∙ same_number k)
 
   owned : Owned ns ds
   owned b l =
-      let r = owner_entry ns es s b l in
+      let r = owner_entry o.sound b l in
       owned_from ds _ _ r.0 apart (omega (arith, long, r.1)) (same_number r.0 ∙ r.2) (omega (arith, same_len r.0, r.3))
 
   lasts : Lasts ns ds
   lasts j l h =
       let e = same_last j in
-      let a = s.3 j (omega (arith, long)) (omega (arith, same_len j)) in
+      let a = o.sound.lasts j (omega (arith, long)) (omega (arith, same_len j)) in
       rw e (a.0, a.1 ∙ sym (same_number j), a.2 ∙ sym (same_len j))
 
   full : Full ns ds
-  full = omega (arith, sum_by-set (λ (e : Entry). e.len) es i (closed (entry es i)) blank_entry li, s.6)
+  full = omega (arith, sum_by-set (λ (e : Entry). e.len) es i (closed (entry es i)) blank_entry li, o.sound.full)
 
   pub finish_order : Order ns ds count next
   finish_order =
-      order_from ns ds count next (owned, s.1, s.2, lasts, s.4, apart, full)
-      o.1.1.1.1.1.1.1.1.1.0 (long ∙ table) few o.1.1.1.1.1.1.1.1.1.1.1.1.0
-      (same_number 0 ∙ o.1.1.1.1.1.1.1.1.1.1.1.1.1.0)
-      (λ j l. subst (λ (x : ℕ). x < next) (sym (same_number j)) (o.1.1.1.1.1.1.1.1.1.1.1.1.1.1.0 j (omega (arith, long))))
-      (λ j h. rw (entry_kept j (omega (arith, h.0))) (o.1.1.1.1.1.1.1.1.1.1.1.1.1.1.1.0 j (h.0, omega (arith, long, h.1))))
-      o.1.1.1.1.1.1.1.1.1.1.1.1.1.1.1.1.0
+      record {
+        sound = record { owned = owned; backed = o.sound.backed; jumps = o.sound.jumps; lasts = lasts; single = o.sound.single; apart = apart; full = full };
+        small = o.small;
+        table = long ∙ o.table;
+        few = o.few;
+        ends = o.ends;
+        free = same_number 0 ∙ o.free;
+        numbers = λ j l. subst (λ (x : ℕ). x < next) (sym (same_number j)) (o.numbers j (omega (arith, long)));
+        unused = λ j h. rw (entry_kept j (omega (arith, h.0))) (o.unused j (h.0, omega (arith, long, h.1)));
+        idle = o.idle;
+      }
 
 -- an empty entry goes out of use
-module _ (ns : List Node) (es : List Entry) (count next i : ℕ) (o : Order ns es count next) (low : 0 < i) (le : i ≤ count) (empty : (entry es i).len ≡ 0) where
+module _ {ns : List Node} {es : List Entry} {count next : ℕ} (o : Order ns es count next) (i : ℕ) (low : 0 < i) (le : i ≤ count) (empty : (entry es i).len ≡ 0) where
   abbrev v : ℕ
   v = renewed next (entry es i).number
 
   abbrev ts : List Entry
   ts = closed_up es i v
 
-  s' : Sound ns es
-  s' = sound_of ns es count next o
-
-  table' : length es ≡ 257
-  table' = o.1.1.1.1.1.1.1.1.1.1.0
-
-  few' : count ≤ 256
-  few' = o.1.1.1.1.1.1.1.1.1.1.1.0
-
-  numbers' : Numbers es next
-  numbers' = o.1.1.1.1.1.1.1.1.1.1.1.1.1.1.0
-
   li' : i < 257
-  li' = omega (arith, few')
+  li' = omega (arith, o.few)
 
   pub long_closed : length ts ≡ 257
-  long_closed = closed_long es i v table' li'
+  long_closed = closed_long es i v o.table li'
 
   -- each entry but the last comes from one that stays
   data Stays (j k : ℕ) : Type 0 where
@@ -155,8 +121,8 @@ module _ (ns : List Node) (es : List Entry) (count next i : ℕ) (o : Order ns e
   whence : (j : ℕ) → j < 256 → (k : ℕ) × Stays j k × (k < length es) × (entry ts j ≡ entry es k)
   whence j l =
       ⊎_elim
-      (λ (b : j < i). (j, before b refl, omega (arith, table'), closed_below es i v j table' li' b))
-      (λ (b : i ≤ j). (j + 1, behind b refl, omega (arith, table'), closed_above es i v j table' li' b l))
+      (λ (b : j < i). (j, before b refl, omega (arith, o.table), closed_below es i v j o.table li' b))
+      (λ (b : i ≤ j). (j + 1, behind b refl, omega (arith, o.table), closed_above es i v j o.table li' b l))
       (cases_lt j i)
 
   stays_other : (j k : ℕ) → Stays j k → k ≡ i → ⊥
@@ -173,31 +139,31 @@ module _ (ns : List Node) (es : List Entry) (count next i : ℕ) (o : Order ns e
   whither : (k : ℕ) → k < length es → (k ≡ i → ⊥) → (j : ℕ) × (j < 256) × (entry ts j ≡ entry es k)
   whither k l h =
       ⊎_elim
-      (λ (b : k < i). (k, omega (arith, few'), closed_below es i v k table' li' b))
+      (λ (b : k < i). (k, omega (arith, o.few), closed_below es i v k o.table li' b))
       (λ (b : i ≤ k).
       let e : k - 1 + 1 ≡ k = omega arith in
-      (k - 1, omega (arith, table'), closed_above es i v (k - 1) table' li' (omega arith) (omega (arith, table')) ∙ ap (entry es) e))
+      (k - 1, omega (arith, o.table), closed_above es i v (k - 1) o.table li' (omega arith) (omega (arith, o.table)) ∙ ap (entry es) e))
       (cases_lt k i)
 
   -- the new number is no other's
   new_number : (k : ℕ) → k < length es → (k ≡ i → ⊥) → (entry es k).number ≡ v → ⊥
   new_number k l h =
       cond_both (ltb next (2 ^ 32)) next (entry es i).number (λ u. (entry es k).number ≡ u → ⊥)
-      (λ _ e. omega (arith, numbers' k l))
-      (λ _ e. h (s'.5 k i (l, omega (arith, table'), e)))
+      (λ _ e. omega (arith, o.numbers k l))
+      (λ _ e. h (o.sound.apart k i (l, omega (arith, o.table), e)))
 
   number_low : v < next_after next
   number_low =
       ⊎_elim
       (λ (b : next < 2 ^ 32). let t = lt-ltb next (2 ^ 32) b in rw (cond-true (ltb next (2 ^ 32)) next (entry es i).number t, cond-true (ltb next (2 ^ 32)) (next + 1) next t) (omega arith))
-      (λ (b : 2 ^ 32 ≤ next). let t = le-ltb next (2 ^ 32) b in rw (cond-false (ltb next (2 ^ 32)) next (entry es i).number t, cond-false (ltb next (2 ^ 32)) (next + 1) next t) (numbers' i (omega (arith, table'))))
+      (λ (b : 2 ^ 32 ≤ next). let t = le-ltb next (2 ^ 32) b in rw (cond-false (ltb next (2 ^ 32)) next (entry es i).number t, cond-false (ltb next (2 ^ 32)) (next + 1) next t) (o.numbers i (omega (arith, o.table))))
       (cases_lt next (2 ^ 32))
 
   next_more : next ≤ next_after next
   next_more = cond_both (ltb next (2 ^ 32)) (next + 1) next (λ u. next ≤ u) (λ _. omega arith) (λ _. omega arith)
 
   next_most : next_after next ≤ 2 ^ 32
-  next_most = cond_both (ltb next (2 ^ 32)) (next + 1) next (λ u. u ≤ 2 ^ 32) (λ t. omega (arith, ltb-true next (2 ^ 32) t)) (λ _. o.1.1.1.1.1.1.1.1.1.1.1.1.0)
+  next_most = cond_both (ltb next (2 ^ 32)) (next + 1) next (λ u. u ≤ 2 ^ 32) (λ t. omega (arith, ltb-true next (2 ^ 32) t)) (λ _. o.ends)
 
   apart' : Apart ns ts
   apart' j k (lj, lk, h) =
@@ -209,25 +175,25 @@ module _ (ns : List Node) (es : List Entry) (count next i : ℕ) (o : Order ns e
       ⊎_elim
       (λ (bk : k < 256).
       let c = whence k bk in
-      let e : a.0 ≡ c.0 = s'.5 _ _ (a.2, c.2, sym (ap num a.3) ∙ h ∙ ap num c.3) in
+      let e : a.0 ≡ c.0 = o.sound.apart _ _ (a.2, c.2, sym (ap num a.3) ∙ h ∙ ap num c.3) in
       stays_one j k c.0 (subst (Stays j) e a.1) c.1)
       (λ (bk : 256 ≤ k).
       let ek : k ≡ 256 = omega arith in
-      absurd (new_number a.0 a.2 (stays_other j a.0 a.1) (sym (ap num a.3) ∙ h ∙ ap (λ (x : ℕ). (entry ts x).number) ek ∙ ap num (closed_last es i v table' li'))))
+      absurd (new_number a.0 a.2 (stays_other j a.0 a.1) (sym (ap num a.3) ∙ h ∙ ap (λ (x : ℕ). (entry ts x).number) ek ∙ ap num (closed_last es i v o.table li'))))
       (cases_lt k 256))
       (λ (bj : 256 ≤ j).
       let ej : j ≡ 256 = omega arith in
       ⊎_elim
       (λ (bk : k < 256).
       let c = whence k bk in
-      absurd (new_number c.0 c.2 (stays_other k c.0 c.1) (sym (ap num c.3) ∙ sym h ∙ ap (λ (x : ℕ). (entry ts x).number) ej ∙ ap num (closed_last es i v table' li'))))
+      absurd (new_number c.0 c.2 (stays_other k c.0 c.1) (sym (ap num c.3) ∙ sym h ∙ ap (λ (x : ℕ). (entry ts x).number) ej ∙ ap num (closed_last es i v o.table li'))))
       (λ (bk : 256 ≤ k). omega arith)
       (cases_lt k 256))
       (cases_lt j 256)
 
   owned' : Owned ns ts
   owned' b l =
-      let r = owner_entry ns es s' b l in
+      let r = owner_entry o.sound b l in
       let w = whither r.0 r.1 (λ e. let z : (entry es r.0).len ≡ 0 = ap (λ (x : ℕ). (entry es x).len) e ∙ empty in omega (arith, r.3)) in
       let lt = long_closed in
       owned_from ts _ _ w.0 apart' (omega (arith, w.1)) (ap (λ (x : Entry). x.number) w.2 ∙ r.2) (rw w.2 r.3)
@@ -238,16 +204,16 @@ module _ (ns : List Node) (es : List Entry) (count next i : ℕ) (o : Order ns e
       ⊎_elim
       (λ (b : j < 256).
       let a = whence j b in
-      rw a.3 (s'.3 a.0 a.2 (subst (λ (x : Entry). 0 < x.len) a.3 h)))
+      rw a.3 (o.sound.lasts a.0 a.2 (subst (λ (x : Entry). 0 < x.len) a.3 h)))
       (λ (b : 256 ≤ j).
       let e : j ≡ 256 = omega arith in
-      let z : (entry ts j).len ≡ 0 = ap (λ (x : ℕ). (entry ts x).len) e ∙ ap (λ (x : Entry). x.len) (closed_last es i v table' li') in
+      let z : (entry ts j).len ≡ 0 = ap (λ (x : ℕ). (entry ts x).len) e ∙ ap (λ (x : Entry). x.len) (closed_last es i v o.table li') in
       absurd (omega arith))
       (cases_lt j 256)
 
   pub sum-closed : (f : Entry → ℕ) → f (entry es i) ≡ 0 → f (spare v) ≡ 0 → sum_by f ts ≡ sum_by f es
   sum-closed f z z' =
-      let lx : i < length es = omega (arith, table') in
+      let lx : i < length es = omega (arith, o.table) in
       let a = sum_by_push f (remove es i) (spare v) in
       let b = sum_by-append f (take i es) (drop (suc i) es) in
       let c = sum_by-take-drop f es i in
@@ -258,68 +224,67 @@ module _ (ns : List Node) (es : List Entry) (count next i : ℕ) (o : Order ns e
   pub drop_order : Order ns ts (count - 1) (next_after next)
   drop_order =
       let lt = long_closed in
-      order_from ns ts (count - 1) (next_after next) (owned', s'.1, s'.2, lasts', s'.4, apart', sum-closed (λ e. e.len) empty refl ∙ s'.6)
-      o.1.1.1.1.1.1.1.1.1.0 long_closed (omega (arith, few')) next_most
-      (ap (λ (x : Entry). x.number) (closed_below es i v 0 table' li' low) ∙ o.1.1.1.1.1.1.1.1.1.1.1.1.1.0)
-      (λ j l.
-      ⊎_elim
-      (λ (b : j < 256). let a = whence j b in rw a.3 (omega (arith, numbers' a.0 a.2, next_more)))
-      (λ (b : 256 ≤ j). let e : j ≡ 256 = omega arith in rw (e, closed_last es i v table' li') number_low)
-      (cases_lt j 256))
-      (λ j h.
-      ⊎_elim
-      (λ (b : j < 256). rw (closed_above es i v j table' li' (omega (arith, h.0)) b) (o.1.1.1.1.1.1.1.1.1.1.1.1.1.1.1.0 (j + 1) (omega (arith, h.0), omega (arith, table'))))
-      (λ (b : 256 ≤ j). let e : j ≡ 256 = omega (arith, h.1) in rw (e, closed_last es i v table' li') (refl, refl))
-      (cases_lt j 256))
-      o.1.1.1.1.1.1.1.1.1.1.1.1.1.1.1.1.0
-
--- nothing was lost yet
-pub cleared_none : (ns : List Node) (es : List Entry) (i : ℕ) → Cleared ns es i ns es
-cleared_none ns es i = record { nodes = refl; entries = refl; number = λ j. refl; live = λ j. refl; others = λ v j a b h. refl; words = λ b. (omega arith, omega arith) }
+      record {
+        sound = record { owned = owned'; backed = o.sound.backed; jumps = o.sound.jumps; lasts = lasts'; single = o.sound.single; apart = apart'; full = sum-closed (λ e. e.len) empty refl ∙ o.sound.full };
+        small = o.small;
+        table = long_closed;
+        few = omega (arith, o.few);
+        ends = next_most;
+        free = ap (λ (x : Entry). x.number) (closed_below es i v 0 o.table li' low) ∙ o.free;
+        numbers = λ j l.
+            ⊎_elim
+            (λ (b : j < 256). let a = whence j b in rw a.3 (omega (arith, o.numbers a.0 a.2, next_more)))
+            (λ (b : 256 ≤ j). let e : j ≡ 256 = omega arith in rw (e, closed_last es i v o.table li') number_low)
+            (cases_lt j 256);
+        unused = λ j h.
+            ⊎_elim
+            (λ (b : j < 256). rw (closed_above es i v j o.table li' (omega (arith, h.0)) b) (o.unused (j + 1) (omega (arith, h.0), omega (arith, o.table))))
+            (λ (b : 256 ≤ j). let e : j ≡ 256 = omega (arith, h.1) in rw (e, closed_last es i v o.table li') (refl, refl))
+            (cases_lt j 256);
+        idle = o.idle;
+      }
 
 -- one batch more
-pub cleared_more : (ns : List Node) (es : List Entry) (i : ℕ) (ms : List Node) (ds : List Entry) (count next : ℕ) → Cleared ns es i ms ds → Order ms ds count next → i < 257 → 0 < i → 0 < (entry ds i).len →
+cleared_more : {ns : List Node} {es : List Entry} {ms : List Node} {ds : List Entry} (i : ℕ) → Cleared ns es i ms ds → 0 < i → Moves ms ds i 0 (jump_of ms ds i 0) →
     Cleared ns es i (shifted_nodes ms ds i 0 (jump_of ms ds i 0) 0 0) (shifted_entries ms ds i 0)
-cleared_more ns es i ms ds count next h o li low some =
-    let s = sound_of ms ds count next o in
-    let j = jump_of ms ds i 0 in
-    let table = o.1.1.1.1.1.1.1.1.1.1.0 in
-    let lf : i < length ds = omega arith in
-    let lt : 0 < length ds = omega arith in
-    let ne : i ≡ 0 → ⊥ = λ e. omega arith in
-    let ok = jump_ok ms ds s i 0 lt in
-    let b = (entry ds i).last in
+cleared_more {ms = ms} {ds} i h low mv =
     record {
-      nodes = nodes_long ms ds s i 0 j 0 0 lf lt ne some ok ∙ h.nodes;
-      entries = entries_long ms ds s i 0 j 0 0 lf lt ne some ok ∙ h.entries;
-      number = λ k. number_same ms ds s i 0 j 0 0 lf lt ne some ok k ∙ h.number k;
-      live = λ k. live_same ms ds s i 0 j 0 0 lf lt ne some ok k ∙ h.live k;
+      nodes = nodes_long mv 0 0 ∙ h.nodes;
+      entries = entries_long mv 0 0 ∙ h.entries;
+      number = λ k. number_same mv 0 0 k ∙ h.number k;
+      live = λ k. live_same mv 0 0 k ∙ h.live k;
       others = λ v k a l u.
-          walk_other ms ds s i 0 j 0 0 lf lt ne some ok (λ c. v c (node ms c)) (λ c. v c (node (shifted_nodes ms ds i 0 j 0 0) c))
-          (λ c lc nc. ap (v c) (node_other ms ds s i 0 j 0 0 lf lt ne some ok c nc)) k (omega (arith, h.entries)) u (omega arith)
+          walk_other mv 0 0 (λ c. v c (node ms c)) (λ c. v c (node (shifted_nodes ms ds i 0 (jump_of ms ds i 0) 0 0) c)) (λ c lc nc. ap (v c) (node_other mv 0 0 c nc)) k (omega (arith, h.entries)) u (omega arith)
           ∙ h.others v k a l u;
       words = λ c.
           ⊎_elim
-          (λ (e : c ≡ b).
-          let w = ap (node (shifted_nodes ms ds i 0 j 0 0)) e ∙ node_here ms ds s i 0 j 0 0 lf lt ne some ok in
+          (λ (e : c ≡ (entry ds i).last).
+          let w = ap (node (shifted_nodes ms ds i 0 (jump_of ms ds i 0) 0 0)) e ∙ node_here mv 0 0 in
           rw w (omega arith, omega arith))
-          (λ (u : c ≡ b → ⊥). rw (node_other ms ds s i 0 j 0 0 lf lt ne some ok c u) (h.words c))
-          (cases_eq c b);
+          (λ (u : c ≡ (entry ds i).last → ⊥). rw (node_other mv 0 0 c u) (h.words c))
+          (cases_eq c (entry ds i).last);
     }
 
 -- the same, where the code's words stand for the results
-pub drop_order_is : (ns : List Node) (es : List Entry) (count next i : ℕ) → Order ns es count next → 0 < i → i ≤ count → (entry es i).len ≡ 0 →
-    (ts : List Entry) (n m : ℕ) → ts ≡ closed_up es i n → n ≡ renewed next (entry es i).number → m ≡ next_after next → Order ns ts (count - 1) m
-drop_order_is ns es count next i o low le empty ts n m e f g =
-    let h = drop_order ns es count next i o low le empty in
-    subst (λ (x : ℕ). Order ns ts (count - 1) x) (sym g) (subst (λ (x : List Entry). Order ns x (count - 1) (next_after next)) (sym (e ∙ ap (closed_up es i) f)) h)
-
-pub cleared_more_is : (ns : List Node) (es : List Entry) (i : ℕ) (ms : List Node) (ds : List Entry) (count next : ℕ) → Cleared ns es i ms ds → Order ms ds count next → i < 257 → 0 < i → 0 < (entry ds i).len →
+pub cleared_more_is : {ns : List Node} {es : List Entry} {ms : List Node} {ds : List Entry} {count next : ℕ} (i : ℕ) → Cleared ns es i ms ds → Order ms ds count next → 0 < i → i ≤ count → 0 < (entry ds i).len →
     (ps : List Node) (qs : List Entry) → ps ≡ shifted_nodes ms ds i 0 (jump_of ms ds i 0) 0 0 → qs ≡ shifted_entries ms ds i 0 → Cleared ns es i ps qs
-cleared_more_is ns es i ms ds count next h o li low some ps qs e f =
+cleared_more_is {ns = ns} {es} {ms} {ds} i h o low le some ps qs e f =
     subst (λ (x : List Node). Cleared ns es i x qs) (sym e)
-    (subst (λ (x : List Entry). Cleared ns es i (shifted_nodes ms ds i 0 (jump_of ms ds i 0) 0 0) x) (sym f) (cleared_more ns es i ms ds count next h o li low some))
+    (subst (λ (x : List Entry). Cleared ns es i (shifted_nodes ms ds i 0 (jump_of ms ds i 0) 0 0) x) (sym f) (cleared_more i h low (moves_of o i 0 le (omega arith) (λ u. omega arith) some)))
+
+pub drop_order_is : {ns : List Node} {es : List Entry} {count next : ℕ} (o : Order ns es count next) (i : ℕ) → 0 < i → i ≤ count → (entry es i).len ≡ 0 →
+    (ts : List Entry) (m : ℕ) → ts ≡ closed_up es i (renewed next (entry es i).number) → m ≡ next_after next → Order ns ts (count - 1) m
+drop_order_is {ns = ns} {es} {count} {next} o i low le empty ts m e g =
+    subst (λ (x : ℕ). Order ns ts (count - 1) x) (sym g) (subst (λ (x : List Entry). Order ns x (count - 1) (next_after next)) (sym e) (drop_order o i low le empty))
 
 -- the free nodes are no file's
 pub finish_free : (es : List Entry) (i : ℕ) → 0 < i → (entry (set es i (closed (entry es i))) 0).len ≡ (entry es 0).len
 finish_free es i lo = ap (λ (e : Entry). e.len) (get_or-set_other es i 0 (closed (entry es i)) blank_entry (omega arith))
+
+-- the entries from i on turn by one, and the last becomes an entry for a file to come
+pub closes_up : {ns : List Node} {es : List Entry} {count next : ℕ} (o : Order ns es count next) (i : ℕ) → 0 < i → i ≤ count → (ys : List Entry) → ys ≡ drop 1 (mid_of i (257 - i) es) ++ take 1 (mid_of i (257 - i) es) →
+    (e : Entry) {n m : ℕ} → e ≡ spare n → n ≡ m → set (put_mid i (257 - i) es ys) 256 e ≡ closed_up es i m
+closes_up {es = es} o i low le ys f e {n} {m} g h =
+    let lr = length-remove es i (omega (arith, o.table, o.few)) in
+    ap (λ (x : List Entry). set x 256 e) (put_mid-rotated i (257 - i) es ys blank_entry (omega (arith, o.table, o.few)) (omega (arith, o.table)) f)
+    ∙ ap (set (remove es i ++ entry es i ∷ []) 256) (g ∙ ap spare h) ∙ set_at (remove es i) (entry es i) [] (spare m) 256 (omega (arith, o.table))

@@ -1,24 +1,8 @@
 -- Words written to a memory, and words copied from it. Assumes nothing.
-use Rattle.std.proofs.Common.{◌≡◌, ℕ, ◌+◌, ◌-◌, ◌<◌, ◌≤◌, List, ◌++◌, length, get_or, take, drop, set, sym, refl, ap, ◌∙◌, zero-add, arith, length-drop, length-take}
+use Rattle.std.proofs.Common.{◌≡◌, ℕ, ◌+◌, ◌-◌, ◌<◌, ◌≤◌, List, ◌++◌, length, get_or, take, drop, sym, refl, ap, ◌∙◌, arith, length-drop, length-take}
 use lib.Seq.{paste}
 use Rattle.std.proofs.lemmas.List.{get_or-drop, get_or-take, ext_get_or, get_or_append_left, get_or-append_right}
-use Rattle.std.proofs.lemmas.List.Edits.{paste_more, paste_all, length-paste}
-
-pub lay_more : (m : List ℕ) (at : ℕ) (s : List ℕ) (i : ℕ) (ws : List ℕ) → i < length s → at + length s ≤ length m → ws ≡ paste m at s i → set ws (at + i) (get_or s i 0) ≡ paste m at s (i + 1)
-lay_more m at s i ws l fits e = ap (λ (x : List ℕ). set x (at + i) (get_or s i 0)) e ∙ paste_more m at s i 0 (omega arith) l
-
-pub fetch_more : (m : List ℕ) (at n : ℕ) (p : List ℕ) (i : ℕ) (q : List ℕ) → i < n → at + n ≤ length m → n ≤ 64 → length p ≡ 64 → q ≡ take i (drop at m) ++ drop i p →
-    set q i (get_or m (at + i) 0) ≡ take (i + 1) (drop at m) ++ drop (i + 1) p
-fetch_more m at n p i q l fits small long e =
-    let s = drop at m in
-    let ls = length-drop at m in
-    let a : paste p 0 s i ≡ take i s ++ drop i p = ap (λ (k : ℕ). take i s ++ drop k p) (zero-add i) in
-    let b : paste p 0 s (i + 1) ≡ take (i + 1) s ++ drop (i + 1) p = ap (λ (k : ℕ). take (i + 1) s ++ drop k p) (zero-add (i + 1)) in
-    let c : set (paste p 0 s i) (0 + i) (get_or s i 0) ≡ paste p 0 s (i + 1) = paste_more p 0 s i 0 (omega arith) (omega arith) in
-    ap (λ (x : List ℕ). set x i (get_or m (at + i) 0)) (e ∙ sym a)
-    ∙ ap (λ (x : ℕ). set (paste p 0 s i) i x) (sym (get_or-drop at m i 0))
-    ∙ ap (λ (k : ℕ). set (paste p 0 s i) k (get_or s i 0)) (sym (zero-add i))
-    ∙ c ∙ b
+use Rattle.std.proofs.lemmas.List.Edits.{paste_all, length-paste}
 
 -- what was laid down is found there
 pub laid_here : (m : List ℕ) (at : ℕ) (s : List ℕ) (n : ℕ) → n ≡ length s → at + length s ≤ length m → take n (drop at (paste m at s (length s))) ≡ s
@@ -61,7 +45,3 @@ stretch_same m p at n lp h =
     (λ k l.
     let lk : k < n = omega (arith, length-take n (drop at p)) in
     get_or-take n (drop at p) k 0 lk ∙ get_or-drop at p k 0 ∙ h (at + k) (omega arith) (omega arith) ∙ sym (get_or-take n (drop at m) k 0 lk ∙ get_or-drop at m k 0))
-
-pub fetch_more_is : (m : List ℕ) (at n : ℕ) (p : List ℕ) (i : ℕ) (q : List ℕ) (x : ℕ) → i < n → at + n ≤ length m → n ≤ 64 → length p ≡ 64 → q ≡ take i (drop at m) ++ drop i p → x ≡ get_or m (at + i) 0 →
-    set q i x ≡ take (i + 1) (drop at m) ++ drop (i + 1) p
-fetch_more_is m at n p i q x l fits small long e f = ap (λ (y : ℕ). set q i y) f ∙ fetch_more m at n p i q l fits small long e

@@ -1,10 +1,8 @@
 pub mod Chaining
 pub mod Shifting
-pub mod Orders
 pub mod Entries
 pub mod Openings
 pub mod Layings
-pub mod Lookups
 pub mod Tables
 pub mod Filing
 pub mod Fars

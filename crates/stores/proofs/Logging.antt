@@ -1,30 +1,34 @@
 -- What the calls of a log store do. Assumes nothing.
-use Rattle.std.proofs.Common.{◌≡◌, ℕ, ◌+◌, ◌-◌, ◌*◌, ◌<◌, ◌≤◌, true, false, eqb, leb, List, length, get_or, take, drop, set, Some, None, vec_items, Option, sym, refl, ap, ◌∙◌, subst, ⊎_elim, arith, length-drop, length-set, length-take}
+use Rattle.std.proofs.Common.{◌≡◌, ℕ, ◌+◌, ◌-◌, ◌/◌, ◌<◌, ◌≤◌, Bool, true, leb, List, length, get_or, take, drop, set, Some, None, vec_items, Option, sym, refl, ap, ◌∙◌, subst, ⊎_elim, arith, length-drop, length-set, length-take}
 use lib.Seq.{paste}
 use Rattle.std.proofs.lemmas.List.Edits.{length-paste}
 use Rattle.std.proofs.lemmas.List.{get_or-set_same, get_or-set_other}
-use Rattle.std.proofs.lemmas.Bool.{lt-leb, le-leb, cases_eq, eq-eqb, ne_eqb}
+use Rattle.std.proofs.lemmas.Bool.{le-leb, cases_eq}
 use Rattle.stores.specs.declared.node.Node.{Node}
 use Rattle.stores.specs.declared.node.Entry.{Entry}
+use Rattle.stores.specs.declared.directory.Directory.{Directory}
 use Rattle.stores.specs.declared.log.LogStore.{LogStore}
 use Rattle.resources.specs.Files.{File, put, extended}
-use Rattle.stores.specs.Chains.{node, blank_node, entry, linked, shifted_nodes, shifted_entries, jump_of, Below, Marked, Short, Cleared}
-use Rattle.stores.specs.Stores.{files_of, files_in, Load, load_of, without, log_val, log_files, log_load, log_words, recorded, zeroed, restarts}
+use Rattle.stores.specs.Chains.{node, blank_node, entry, linked, shifted_nodes, shifted_entries, jump_of, Below, Marked, Short, Run, Order}
+use Rattle.stores.specs.Filed.{files_of, files_in, Load, load_of, without, dir_files, dir_load, Opened, Removes}
+use Rattle.stores.specs.Stores.{log_val, log_files, log_load, log_words, recorded, zeroed}
 use Rattle.stores.proofs.Chaining.{owner_entry}
-use Rattle.stores.proofs.Orders.{Order, order_of, sound_of}
-use Rattle.stores.proofs.Shifting.{entry_from, jump_ok}
+use Rattle.stores.proofs.Shifting.{entry_from, moves_of}
 use Rattle.stores.proofs.Blocking.{short_set}
 use Rattle.stores.proofs.Layings.{laid_here, laid_below, stretch_same}
-use Rattle.stores.proofs.Tables.{all_nodes, files_long}
-use Rattle.stores.proofs.Filing.{append_files, file_at}
+use Rattle.stores.proofs.Tables.{all_nodes}
+use Rattle.stores.proofs.Filing.{append_files}
 
--- what a log store keeps
-abbrev pub Keeps : List Node → List Entry → List ℕ → ℕ → Type 0
-Keeps ns es m end = (end ≤ length m) × (Below ns end × (Short ns × (Marked m end × ((length m ≤ length ns * 3 + 2) × ((length ns * 3 ≤ end + (entry es 0).len * 3) × Unit {0})))))
-
-pub keeps_same : (s : LogStore) (ps : List Node) (qs : List Entry) → ps ≡ vec_items s.dir.nodes → (entry qs 0).len ≡ (entry s.dir.entries 0).len → Keeps ps qs (log_words s) s.end
-keeps_same s ps qs e f =
-    (s.within, (subst (λ (x : List Node). Below x s.end) (sym e) s.low, (subst Short (sym e) s.short, (s.mark, (omega (arith, s.enough, ap length e), (omega (arith, s.thin, ap length e), tt))))))
+-- the same nodes, and as many of them free
+pub keeps_same : (s : LogStore) (t : Directory) → vec_items t.nodes ≡ vec_items s.dir.nodes → (entry t.entries 0).len ≡ (entry s.dir.entries 0).len → Run (vec_items t.nodes) t.entries (log_words s) s.end
+keeps_same s t e f = record {
+  within = s.run.within;
+  low = subst (λ (x : List Node). Below x s.end) (sym e) s.run.low;
+  short = subst Short (sym e) s.run.short;
+  mark = s.run.mark;
+  enough = omega (arith, s.run.enough, ap length e);
+  thin = omega (arith, s.run.thin, ap length e);
+}
 
 -- the words that a record leaves
 module _ (m : List ℕ) (at n : ℕ) (ws : List ℕ) (fits : at + 2 + length ws ≤ length m) where
@@ -64,7 +68,7 @@ module _ (m : List ℕ) (at n : ℕ) (ws : List ℕ) (fits : at + 2 + length ws 
 
 -- while the run has room, a node is free
 pub node_free : (s : LogStore) (n : ℕ) → 0 < n → s.end + 2 + n ≤ length (log_words s) → 0 < (entry s.dir.entries 0).len
-node_free s n h fits = omega (arith, s.enough, s.thin)
+node_free s n h fits = omega (arith, s.run.enough, s.run.thin)
 
 module _ (s : LogStore) (i n : ℕ) (ws m : List ℕ) (lo : 0 < i) (le : i ≤ s.dir.count) (some : 0 < length ws) (fits : s.end + 2 + length ws ≤ length (log_words s))
     (laid : m ≡ recorded (log_words s) s.end n ws) (ps : List Node) (qs : List Entry)
@@ -73,59 +77,48 @@ module _ (s : LogStore) (i n : ℕ) (ws m : List ℕ) (lo : 0 < i) (le : i ≤ s
   free : 0 < (entry s.dir.entries 0).len
   free = node_free s (length ws) some fits
 
-  pub log_append : (count' next : ℕ) → count' ≡ s.dir.count → Order ps qs count' next →
-      (files_in ps (log_val m) qs count' ≡ put (log_files s) n (extended (log_files s n) ws)) × (load_of (files_of ps (log_val m) qs count') ≡ record { files = (log_load s).files; batches = (log_load s).batches + 1 })
-  log_append count' next e o' =
+  pub log_append : {count' : ℕ} → count' ≡ s.dir.count →
+      (files_in ps (log_val m) qs count' ≡ put (log_files s) n (extended (log_files s n) ws)) × (load_of (files_of ps (log_val m) qs count') ≡ record (log_load s) { batches = (log_load s).batches + 1 })
+  log_append e =
       let w = log_words s in
       let ns = vec_items s.dir.nodes in
-      let r = append_files ns s.dir.entries s.dir.count s.dir.next (order_of s.dir) (log_val w) (log_val m) i (s.end + 2) (length ws) ws lo le free
-      (λ c l h. ap (λ (x : List ℕ). take (node ns c).length (drop (node ns c).start x)) laid ∙ record_stretch w s.end n ws fits (node ns c).start (node ns c).length (s.low c l))
+      append_files s.dir.order (log_val w) (log_val m) i (s.end + 2) (length ws) ws lo le free
+      (λ c l h. ap (λ (x : List ℕ). take (node ns c).length (drop (node ns c).start x)) laid ∙ record_stretch w s.end n ws fits (node ns c).start (node ns c).length (s.run.low c l))
       (ap (λ (x : List ℕ). take (length ws) (drop (s.end + 2) x)) laid ∙ record_batch w s.end n ws fits)
-      ps qs n nodes entries number next (subst (λ (x : ℕ). Order ps qs x next) e o') in
-      (ap (λ (x : ℕ). files_in ps (log_val m) qs x) e ∙ r.0, ap (λ (x : ℕ). load_of (files_of ps (log_val m) qs x)) e ∙ r.1)
+      n nodes entries e number
 
-  pub append-keeps : length ws ≤ 64 → Keeps ps qs m (s.end + 2 + length ws)
+  pub append-keeps : length ws ≤ 64 → Run ps qs m (s.end + 2 + length ws)
   append-keeps small =
       let w = log_words s in
       let ns = vec_items s.dir.nodes in
       let es = s.dir.entries in
       let b = (entry es 0).last in
-      let lb = s.dir.lastin 0 (omega (arith, s.dir.table), free) in
+      let mv = moves_of s.dir.order 0 i (omega arith) le (λ u. omega arith) free in
+      let lb = (mv.sound.lasts 0 mv.source free).0 in
       let d = linked (entry es i) b (jump_of ns es 0 i) (s.end + 2) (length ws) in
       let lm : length m ≡ length w = ap length laid ∙ long_recorded w s.end n ws fits in
       let lp : length ps ≡ length ns = ap length nodes ∙ length-set ns b d in
-      let sd = sound_of _ _ _ _ (order_of s.dir) in
-      let li : i < length es = omega (arith, s.dir.table, s.dir.few) in
-      let lz : 0 < length es = omega (arith, s.dir.table) in
-      let ez : (entry qs 0).len ≡ (entry es 0).len - 1 = ap (λ (x : List Entry). (entry x 0).len) entries
-      ∙ ap (λ (x : Entry). x.len) (entry_from ns es sd 0 i (jump_of ns es 0 i) (s.end + 2) (length ws) lz li (λ u. omega arith) free (jump_ok ns es sd 0 i li)) in
+      let ez : (entry qs 0).len ≡ (entry es 0).len - 1 = ap (λ (x : List Entry). (entry x 0).len) entries ∙ ap (λ (x : Entry). x.len) (entry_from mv (s.end + 2) (length ws)) in
       let low : Below (set ns b d) (s.end + 2 + length ws) = λ c l.
       ⊎_elim
       (λ (u : c ≡ b). subst (λ (x : Node). x.start + x.length ≤ s.end + 2 + length ws) (sym (ap (λ (k : ℕ). get_or (set ns b d) k blank_node) u ∙ get_or-set_same ns b d blank_node lb)) (omega arith))
-      (λ (u : c ≡ b → ⊥). subst (λ (x : Node). x.start + x.length ≤ s.end + 2 + length ws) (sym (get_or-set_other ns b c d blank_node u)) (omega (arith, s.low c (omega (arith, length-set ns b d)))))
-      (cases_eq c b) in (
-        omega arith,
-        (
-          subst (λ (x : List Node). Below x (s.end + 2 + length ws)) (sym nodes) low,
-          (
-            subst Short (sym nodes) (short_set ns b d s.short lb small),
-            (
-              subst (λ (x : List ℕ). Marked x (s.end + 2 + length ws)) (sym laid) (record_mark w s.end n ws fits),
-              (omega (arith, s.enough), (omega (arith, s.thin), tt)),
-            ),
-          ),
-        ),
-      )
-
-pub room_none : (s : LogStore) (ws : List ℕ) → length (log_words s) < s.end + 2 + length ws → leb (s.end + 2 + length ws) (length (log_words s)) ≡ false
-room_none s ws h = lt-leb _ _ h
+      (λ (u : c ≡ b → ⊥). subst (λ (x : Node). x.start + x.length ≤ s.end + 2 + length ws) (sym (get_or-set_other ns b c d blank_node u)) (omega (arith, s.run.low c (omega (arith, length-set ns b d)))))
+      (cases_eq c b) in
+      record {
+        within = omega arith;
+        low = subst (λ (x : List Node). Below x (s.end + 2 + length ws)) (sym nodes) low;
+        short = subst Short (sym nodes) (short_set ns b d s.run.short lb small);
+        mark = subst (λ (x : List ℕ). Marked x (s.end + 2 + length ws)) (sym laid) (record_mark w s.end n ws fits);
+        enough = omega (arith, s.run.enough);
+        thin = omega (arith, s.run.thin);
+      }
 
 pub room_some : (s : LogStore) (ws : List ℕ) → s.end + 2 + length ws ≤ length (log_words s) → leb (s.end + 2 + length ws) (length (log_words s)) ≡ true
 room_some s ws h = le-leb _ _ h
 
 -- a record of the store lies in the run
 pub record_in : (s : LogStore) (b : ℕ) (d : Node) → b < length (vec_items s.dir.nodes) → d ≡ node (vec_items s.dir.nodes) b → d.start + d.length ≤ length (log_words s)
-record_in s b d l e = subst (λ (x : Node). x.start + x.length ≤ length (log_words s)) (sym e) (omega (arith, s.low b l, s.within))
+record_in s b d l e = subst (λ (x : Node). x.start + x.length ≤ length (log_words s)) (sym e) (omega (arith, s.run.low b l, s.run.within))
 
 pub record_value : (s : LogStore) (b : ℕ) (d : Node) → b < length (vec_items s.dir.nodes) → d ≡ node (vec_items s.dir.nodes) b →
     (take d.length (drop d.start (log_words s)) ≡ log_val (log_words s) b (node (vec_items s.dir.nodes) b)) × (d.length ≡ length (log_val (log_words s) b (node (vec_items s.dir.nodes) b)))
@@ -141,66 +134,63 @@ less : (m : Load) (o : Option File) → (without m o).batches ≤ m.batches
 less m None = omega arith
 less m (Some f) = omega arith
 
--- the nodes after a file is cleared away
-clear_low : (s : LogStore) (i : ℕ) (ms ps : List Node) (ds : List Entry) → Cleared (vec_items s.dir.nodes) s.dir.entries i ms ds → ps ≡ ms →
-    (length ps ≡ length (vec_items s.dir.nodes)) × Below ps s.end × Short ps
-clear_low s i ms ps ds cl e = (
-  ap length e ∙ cl.nodes,
-  subst (λ (x : List Node). Below x s.end) (sym e) (λ b l. omega (arith, (cl.words b).1, s.low b (omega (arith, cl.nodes)))),
-  subst Short (sym e) (λ b l. omega (arith, (cl.words b).0, s.short b (omega (arith, cl.nodes)))),
-)
-
-pub remove-keeps : (s : LogStore) (i n : ℕ) (ms ps : List Node) (ds qs : List Entry) → Cleared (vec_items s.dir.nodes) s.dir.entries i ms ds → ps ≡ ms → (count' next' : ℕ) → Order ps qs count' next' →
-    load_of (files_of ps (log_val (log_words s)) qs count') ≡ without (log_load s) (log_files s n) → Keeps ps qs (log_words s) s.end
-remove-keeps s i n ms ps ds qs cl e count' next' o' f =
-    let a = clear_low s i ms ps ds cl e in
+-- the nodes after a file is taken away
+pub remove-keeps : (s : LogStore) (n : ℕ) (b : Bool) (t : Directory) → Removes s.dir n b t → Run (vec_items t.nodes) t.entries (log_words s) s.end
+remove-keeps s n b t r =
     let v = log_val (log_words s) in
-    let before = all_nodes _ _ _ _ v (order_of s.dir) in
-    let after = all_nodes ps qs count' next' v o' in
+    let before = all_nodes s.dir.order v in
+    let after = all_nodes t.order v in
     let l = less (log_load s) (log_files s n) in
-    let g : (load_of (files_of ps v qs count')).batches ≡ (without (log_load s) (log_files s n)).batches = ap (λ (x : Load). x.batches) f in
-    (s.within, (a.1, (a.2, (s.mark, (omega (arith, s.enough, a.0), (omega (arith, s.thin, a.0), tt))))))
+    let g : (dir_load t v).batches ≡ (without (log_load s) (log_files s n)).batches = ap (λ (x : Load). x.batches) (r.load v) in
+    record {
+      within = s.run.within;
+      low = λ k l. omega (arith, (r.words k).1, s.run.low k (omega (arith, r.size)));
+      short = λ k l. omega (arith, (r.words k).0, s.run.short k (omega (arith, r.size)));
+      mark = s.run.mark;
+      enough = omega (arith, s.run.enough, r.size);
+      thin = omega (arith, s.run.thin, r.size);
+    }
 
 -- without files every node is free
-all_free : (ns : List Node) (es : List Entry) (next : ℕ) → Order ns es 0 next → (b : ℕ) → b < length ns → (node ns b).owner ≡ 0
-all_free ns es next o b l =
-    let r = owner_entry ns es (sound_of ns es 0 next o) b l in
+all_free : {ns : List Node} {es : List Entry} {next : ℕ} (o : Order ns es 0 next) (b : ℕ) → b < length ns → (node ns b).owner ≡ 0
+all_free {es = es} o b l =
+    let r = owner_entry o.sound b l in
     ⊎_elim
-    (λ (z : r.0 ≡ 0). sym r.2 ∙ ap (λ (k : ℕ). (entry es k).number) z ∙ o.1.1.1.1.1.1.1.1.1.1.1.1.1.0)
-    (λ (z : r.0 ≡ 0 → ⊥). let u = (o.1.1.1.1.1.1.1.1.1.1.1.1.1.1.1.0 r.0 (omega arith, r.1)).0 in absurd (omega (arith, r.3)))
+    (λ (z : r.0 ≡ 0). sym r.2 ∙ ap (λ (k : ℕ). (entry es k).number) z ∙ o.free)
+    (λ (z : r.0 ≡ 0 → ⊥). let u = (o.unused r.0 (omega arith, r.1)).0 in absurd (omega (arith, r.3)))
     (cases_eq r.0 0)
 
-pub restart_keeps : (s : LogStore) (i : ℕ) (ms ps : List Node) (ds qs : List Entry) → Cleared (vec_items s.dir.nodes) s.dir.entries i ms ds → ps ≡ ms → (count' next' : ℕ) → Order ps qs count' next' → count' ≡ 0 →
-    (m : List ℕ) → m ≡ zeroed (log_words s) 0 → Keeps ps qs m 0
-restart_keeps s i ms ps ds qs cl e count' next' o' z m f =
-    let a = clear_low s i ms ps ds cl e in
-    let o : Order ps qs 0 next' = subst (λ (x : ℕ). Order ps qs x next') z o' in
+pub restart_keeps : (s : LogStore) (n : ℕ) (b : Bool) (t : Directory) → Removes s.dir n b t → t.count ≡ 0 → (m : List ℕ) → m ≡ zeroed (log_words s) 0 → Run (vec_items t.nodes) t.entries m 0
+restart_keeps s n b t r z m f =
+    let o : Order (vec_items t.nodes) t.entries 0 t.next = subst (λ (x : ℕ). Order (vec_items t.nodes) t.entries x t.next) z t.order in
     let lm : length m ≡ length (log_words s) = ap length f ∙ length-set (log_words s) 0 0 in
-    let all : (entry qs 0).len + 0 ≡ length ps = all_nodes ps qs 0 next' (log_val m) o in
-    let low : Below ps 0 = λ b l. let u = o.1.1.1.1.1.1.1.1.1.1.1.1.1.1.1.1.0 b (l, all_free ps qs next' o b l) in omega (arith, u.0, u.1) in
-    let mark : Marked m 0 = λ l. ap (λ (x : List ℕ). get_or x 0 0) f ∙ get_or-set_same (log_words s) 0 0 0 (omega arith) in
-    (omega arith, (low, (a.2, (mark, (omega (arith, s.enough, a.0), (omega arith, tt))))))
-
--- does a remove restart the run?
-module _ (s : LogStore) (i n : ℕ) (lo : 0 < i) (le : i ≤ s.dir.count) (g : (entry s.dir.entries i).number ≡ n) where
-  which : restarts (log_load s) (log_files s n) ≡ eqb s.dir.count 1
-  which =
-      ap (restarts (log_load s)) (file_at _ _ _ _ (order_of s.dir) (log_val (log_words s)) i n lo le g)
-      ∙ ap (λ (x : ℕ). eqb x 1) (files_long _ _ _ _ (order_of s.dir) (log_val (log_words s)))
-
-  pub restart_yes : (count' : ℕ) → count' ≡ s.dir.count - 1 → count' ≡ 0 → restarts (log_load s) (log_files s n) ≡ true
-  restart_yes count' e z = which ∙ eq-eqb s.dir.count 1 (omega arith)
-
-  pub restart_no : (count' : ℕ) → count' ≡ s.dir.count - 1 → (count' ≡ 0 → ⊥) → restarts (log_load s) (log_files s n) ≡ false
-  restart_no count' e z = which ∙ ne_eqb s.dir.count 1 (λ u. z (omega arith))
+    let all : (entry t.entries 0).len + 0 ≡ length (vec_items t.nodes) = all_nodes o (log_val m) in
+    let low : Below (vec_items t.nodes) 0 = λ k l. let u = o.idle k (l, all_free o k l) in omega (arith, u.0, u.1) in
+    record {
+      within = omega arith;
+      low = low;
+      short = λ k l. omega (arith, (r.words k).0, s.run.short k (omega (arith, r.size)));
+      mark = λ l. ap (λ (x : List ℕ). get_or x 0 0) f ∙ get_or-set_same (log_words s) 0 0 0 (omega arith);
+      enough = omega (arith, s.run.enough, r.size);
+      thin = omega arith;
+    }
 
 -- without files the words do not matter
-pub empty_files : (ps : List Node) (qs : List Entry) (count' : ℕ) (m w : List ℕ) → count' ≡ 0 →
-    (files_in ps (log_val m) qs count' ≡ files_in ps (log_val w) qs count') × (load_of (files_of ps (log_val m) qs count') ≡ load_of (files_of ps (log_val w) qs count'))
-empty_files ps qs count' m w z = (
-  ap (files_in ps (log_val m) qs) z ∙ sym (ap (files_in ps (log_val w) qs) z),
-  ap (λ (x : ℕ). load_of (files_of ps (log_val m) qs x)) z ∙ sym (ap (λ (x : ℕ). load_of (files_of ps (log_val w) qs x)) z),
+pub empty_files : (d : Directory) (m w : List ℕ) → d.count ≡ 0 → (dir_files d (log_val m) ≡ dir_files d (log_val w)) × (dir_load d (log_val m) ≡ dir_load d (log_val w))
+empty_files d m w z = (
+  ap (files_in (vec_items d.nodes) (log_val m) d.entries) z ∙ sym (ap (files_in (vec_items d.nodes) (log_val w) d.entries) z),
+  ap (λ (x : ℕ). load_of (files_of (vec_items d.nodes) (log_val m) d.entries x)) z ∙ sym (ap (λ (x : ℕ). load_of (files_of (vec_items d.nodes) (log_val w) d.entries x)) z),
 )
 
-pub record_short : (s : LogStore) (b : ℕ) (d : Node) → b < length (vec_items s.dir.nodes) → d ≡ node (vec_items s.dir.nodes) b → d.length ≤ 64
-record_short s b d l e = subst (λ (x : Node). x.length ≤ 64) (sym e) (s.short b l)
+-- a directory without files, and a node for each three words
+pub open_keeps : (d : Directory) {n : ℕ} (given m : List ℕ) → Opened n d → n ≡ length given / 3 → m ≡ zeroed given 0 → Run (vec_items d.nodes) d.entries m 0
+open_keeps d given m o e f =
+    let lm : length m ≡ length given = ap length f ∙ length-set given 0 0 in
+    record {
+      within = omega arith;
+      low = λ b l. let u = o.free b (omega (arith, o.size)) in rw u (omega arith);
+      short = λ b l. let u = o.free b (omega (arith, o.size)) in rw u (omega arith);
+      mark = λ l. ap (λ (x : List ℕ). get_or x 0 0) f ∙ get_or-set_same given 0 0 0 (omega arith);
+      enough = omega (arith, o.size);
+      thin = omega (arith, o.size, ap (λ (x : Entry). x.len) o.blank.free);
+    }

@@ -1,19 +1,27 @@
 -- One node goes from the end of one chain to the end of another: the chains stay in good order. Assumes nothing.
 use Rattle.std.proofs.Common.{◌≡◌, ℕ, suc, ◌+◌, ◌-◌, ◌<◌, ◌≤◌, cond, eqb, List, [], ◌∷◌, ◌++◌, length, set, sym, refl, ap, ◌∙◌, subst, ⊎_elim, add-one, arith, length-set}
 use Rattle.std.proofs.lemmas.List.{get_or-set_same, get_or-set_other}
-use Rattle.std.proofs.lemmas.List.Sums.{sum_by-set}
+use Rattle.std.proofs.lemmas.List.Sums.{sum_by-set, get_or-le-sum_by}
 use Rattle.std.proofs.lemmas.Bool.{eq-eqb, ne_eqb, cond-true, cond-false, cond_both, cases_eq}
 use Rattle.stores.specs.declared.node.Node.{Node}
 use Rattle.stores.specs.declared.node.Entry.{Entry}
-use Rattle.stores.specs.Chains.{node, entry, walk, blank_entry, Owned, Backed, Jumps, Lasts, Single, Apart, Full, Sound, shorter, longer, linked, shifted_nodes, shifted_entries, Numbers, Unused, Idle, jump_of, far_of}
+use Rattle.stores.specs.Chains.{node, entry, walk, blank_entry, Owned, Backed, Jumps, Lasts, Single, Apart, Full, Sound, Order, shorter, longer, linked, shifted_nodes, shifted_entries, Unused, Idle, jump_of, far_of}
 use Rattle.stores.proofs.Chaining.{owner_entry, place_below, owned_from, Begins, begins_back, walk_frame}
 
 -- what a jump behind the last of the entry t may be
 abbrev pub JumpOk : List Node → List Entry → ℕ → ℕ → ℕ → Type 0
 JumpOk ns es t b j = ((entry es t).len ≡ 0 → j ≡ b) × (0 < (entry es t).len → (j < length ns) × ((node ns j).owner ≡ (entry es t).number) × ((node ns j).place + 1 ≤ (entry es t).len))
 
-module _ (ns : List Node) (es : List Entry) (s : Sound ns es) (f t j start n : ℕ) (lf : f < length es) (lt : t < length es) (ne : f ≡ t → ⊥)
-    (some : 0 < (entry es f).len) (jump : JumpOk ns es t (entry es f).last j) where
+-- what has to hold for a node to go from the end of the entry f to the end of the entry t, with the jump j
+pub record Moves (ns : List Node) (es : List Entry) (f t j : ℕ) : Type 0 where
+  pub sound : Sound ns es
+  pub source : f < length es
+  pub target : t < length es
+  pub other : f ≡ t → ⊥
+  pub some : 0 < (entry es f).len
+  pub jump : JumpOk ns es t (entry es f).last j
+
+module _ {ns : List Node} {es : List Entry} {f t j : ℕ} (mv : Moves ns es f t j) (start n : ℕ) where
   abbrev b : ℕ
   b = (entry es f).last
 
@@ -24,10 +32,10 @@ module _ (ns : List Node) (es : List Entry) (s : Sound ns es) (f t j start n : �
   ds = shifted_entries ns es f t
 
   moved : ((entry es f).last < length ns) × ((node ns (entry es f).last).owner ≡ (entry es f).number) × ((node ns (entry es f).last).place + 1 ≡ (entry es f).len)
-  moved = s.3 f lf some
+  moved = mv.sound.lasts f mv.source mv.some
 
   numbers : (entry es f).number ≡ (entry es t).number → ⊥
-  numbers h = ne (s.5 f t (lf, lt, h))
+  numbers h = mv.other (mv.sound.apart f t (mv.source, mv.target, h))
 
   pub nodes_long : length ms ≡ length ns
   nodes_long = length-set ns _ _
@@ -45,7 +53,7 @@ module _ (ns : List Node) (es : List Entry) (s : Sound ns es) (f t j start n : �
   entry_to = get_or-set_same (set es f _) t _ _ (omega (arith, length-set es f (shorter (entry es f) (node ns (entry es f).last).back)))
 
   pub entry_from : entry ds f ≡ shorter (entry es f) (node ns (entry es f).last).back
-  entry_from = get_or-set_other (set es f _) t f _ _ ne ∙ get_or-set_same es f _ _ lf
+  entry_from = get_or-set_other (set es f _) t f _ _ mv.other ∙ get_or-set_same es f _ _ mv.source
 
   pub entry_other : (i : ℕ) → (i ≡ f → ⊥) → (i ≡ t → ⊥) → entry ds i ≡ entry es i
   entry_other i hf ht = get_or-set_other (set es f _) t i _ _ ht ∙ get_or-set_other es f i _ _ hf
@@ -67,14 +75,14 @@ module _ (ns : List Node) (es : List Entry) (s : Sound ns es) (f t j start n : �
   -- another node of the chain stands before the last
   earlier : (c : ℕ) → c < length ns → (c ≡ (entry es f).last → ⊥) → (node ns c).owner ≡ (entry es f).number → (node ns c).place + 1 < (entry es f).len
   earlier c l h o =
-      let p = place_below ns es s c f l lf o in
-      let q : (node ns c).place ≡ (node ns (entry es f).last).place → ⊥ = λ e. h (s.4 c _ (l, moved.0, o ∙ sym moved.1, e)) in
+      let p = place_below mv.sound c f l mv.source o in
+      let q : (node ns c).place ≡ (node ns (entry es f).last).place → ⊥ = λ e. h (mv.sound.single c _ (l, moved.0, o ∙ sym moved.1, e)) in
       omega (arith, moved.2)
 
   apart : Apart [] ds
   apart i k (li, lk, h) =
       let e : length ds ≡ length es = entries_long in
-      s.5 i k (omega arith, omega arith, sym (number_same i) ∙ h ∙ number_same k)
+      mv.sound.apart i k (omega arith, omega arith, sym (number_same i) ∙ h ∙ number_same k)
 
   owned : Owned ms ds
   owned c l =
@@ -87,7 +95,7 @@ module _ (ns : List Node) (es : List Entry) (s : Sound ns es) (f t j start n : �
       (rw (w, entry_to) (omega arith)))
       (λ (h : c ≡ (entry es f).last → ⊥).
       let w : node ms c ≡ node ns c = node_other c h in
-      let r = owner_entry ns es s c lc in
+      let r = owner_entry mv.sound c lc in
       let i = r.0 in
       let low : (node ns c).place < (entry ds i).len =
       by_entry (λ k. (entry es k).number ≡ (node ns c).owner → (node ns c).place < (entry es k).len → (node ns c).place < (entry ds k).len)
@@ -122,7 +130,7 @@ module _ (ns : List Node) (es : List Entry) (s : Sound ns es) (f t j start n : �
       (rw e moved.0, ap (λ (x : Node). x.owner) w, ap (λ (x : Node). x.place) w ∙ omega arith))
       (λ (z : (entry es t).len ≡ 0 → ⊥).
       let e : target ≡ (entry es t).last = cond-false _ _ _ (ne_eqb _ _ z) in
-      let a = s.3 t lt (omega arith) in
+      let a = mv.sound.lasts t mv.target (omega arith) in
       let w : node ms target ≡ node ns (entry es t).last = ap (node ms) e ∙ node_other _ (not_moved _ a.1) in
       (rw e a.0, ap (λ (x : Node). x.owner) w ∙ a.1, ap (λ (x : Node). x.place) w ∙ omega (arith, a.2)))
       (cases_eq (entry es t).len 0)
@@ -138,7 +146,7 @@ module _ (ns : List Node) (es : List Entry) (s : Sound ns es) (f t j start n : �
       rw w (omega (arith, k.0), k.1, k.2))
       (λ (h : c ≡ (entry es f).last → ⊥).
       let w : node ms c ≡ node ns c = node_other c h in
-      let k = s.1 c lc in
+      let k = mv.sound.backed c lc in
       let v : node ms (node ns c).back ≡ node ns (node ns c).back = node_other _ (before c _ lc h k.1 (omega (arith, k.2))) in
       rw (w, v) (omega (arith, k.0), k.1, k.2))
       (cases_eq c (entry es f).last)
@@ -147,11 +155,11 @@ module _ (ns : List Node) (es : List Entry) (s : Sound ns es) (f t j start n : �
   jump_here =
       ⊎_elim
       (λ (z : (entry es t).len ≡ 0).
-      let e : j ≡ (entry es f).last = jump.0 z in
+      let e : j ≡ (entry es f).last = mv.jump.0 z in
       let w : node ms j ≡ linked (entry es t) (entry es f).last j start n = ap (node ms) e ∙ node_here in
       (rw e moved.0, ap (λ (x : Node). x.owner) w, rw w (omega arith)))
       (λ (z : (entry es t).len ≡ 0 → ⊥).
-      let a = jump.1 (omega arith) in
+      let a = mv.jump.1 (omega arith) in
       let w : node ms j ≡ node ns j = node_other _ (not_moved _ a.1) in
       (a.0, ap (λ (x : Node). x.owner) w ∙ a.1, rw w (omega (arith, a.2))))
       (cases_eq (entry es t).len 0)
@@ -167,7 +175,7 @@ module _ (ns : List Node) (es : List Entry) (s : Sound ns es) (f t j start n : �
       rw w (omega (arith, k.0), k.1, k.2))
       (λ (h : c ≡ (entry es f).last → ⊥).
       let w : node ms c ≡ node ns c = node_other c h in
-      let k = s.2 c lc in
+      let k = mv.sound.jumps c lc in
       let v : node ms (node ns c).jump ≡ node ns (node ns c).jump = node_other _ (before c _ lc h k.1 k.2) in
       rw (w, v) (omega (arith, k.0), k.1, k.2))
       (cases_eq c (entry es f).last)
@@ -178,7 +186,7 @@ module _ (ns : List Node) (es : List Entry) (s : Sound ns es) (f t j start n : �
       by_entry (λ i. i < length ds → 0 < (entry ds i).len → ((entry ds i).last < length ms) × ((node ms (entry ds i).last).owner ≡ (entry ds i).number) × ((node ms (entry ds i).last).place + 1 ≡ (entry ds i).len))
       (λ l h.
       let more : 0 < (entry es f).len - 1 = subst (λ (e : Entry). 0 < e.len) entry_from h in
-      let k = s.1 (entry es f).last moved.0 in
+      let k = mv.sound.backed (entry es f).last moved.0 in
       let d = (node ns (entry es f).last).back in
       let v : node ms d ≡ node ns d = node_other d (λ e. let q : (node ns d).place ≡ (node ns (entry es f).last).place = ap (λ (x : ℕ). (node ns x).place) e in omega (arith, k.2, moved.2)) in
       rw (entry_from, v) (omega (arith, k.0), k.1 ∙ moved.1, omega (arith, k.2, moved.2)))
@@ -186,13 +194,13 @@ module _ (ns : List Node) (es : List Entry) (s : Sound ns es) (f t j start n : �
       (λ i hf ht l h.
       let e = entry_other i hf ht in
       let li : i < length es = omega (arith, entries_long) in
-      let a = s.3 i li (subst (λ (x : Entry). 0 < x.len) e h) in
-      let v : node ms (entry es i).last ≡ node ns (entry es i).last = node_other _ (λ u. hf (s.5 i f (li, lf, sym a.1 ∙ ap (λ (x : ℕ). (node ns x).owner) u ∙ moved.1))) in
+      let a = mv.sound.lasts i li (subst (λ (x : Entry). 0 < x.len) e h) in
+      let v : node ms (entry es i).last ≡ node ns (entry es i).last = node_other _ (λ u. hf (mv.sound.apart i f (li, mv.source, sym a.1 ∙ ap (λ (x : ℕ). (node ns x).owner) u ∙ moved.1))) in
       rw (e, v) (omega (arith, a.0), a.1, a.2))
 
   -- the place that it takes was free
   new_place : (c : ℕ) → c < length ns → (c ≡ (entry es f).last → ⊥) → (node ns c).owner ≡ (entry es t).number → (node ns c).place ≡ (entry es t).len → ⊥
-  new_place c l h o p = let q = place_below ns es s c t l lt o in omega arith
+  new_place c l h o p = let q = place_below mv.sound c t l mv.target o in omega arith
 
   single : Single ms ds
   single c d (lc, ld, o, p) =
@@ -216,7 +224,7 @@ module _ (ns : List Node) (es : List Entry) (s : Sound ns es) (f t j start n : �
       absurd (new_place c lc' e (sym (ap (λ (x : Node). x.owner) v) ∙ o ∙ ap (λ (x : Node). x.owner) w) (sym (ap (λ (x : Node). x.place) v) ∙ p ∙ ap (λ (x : Node). x.place) w)))
       (λ (g : d ≡ (entry es f).last → ⊥).
       let w : node ms d ≡ node ns d = node_other d g in
-      s.4 c d (lc', ld', sym (ap (λ (x : Node). x.owner) v) ∙ o ∙ ap (λ (x : Node). x.owner) w, sym (ap (λ (x : Node). x.place) v) ∙ p ∙ ap (λ (x : Node). x.place) w))
+      mv.sound.single c d (lc', ld', sym (ap (λ (x : Node). x.owner) v) ∙ o ∙ ap (λ (x : Node). x.owner) w, sym (ap (λ (x : Node). x.place) v) ∙ p ∙ ap (λ (x : Node). x.place) w))
       (cases_eq d (entry es f).last))
       (cases_eq c (entry es f).last)
 
@@ -224,25 +232,25 @@ module _ (ns : List Node) (es : List Entry) (s : Sound ns es) (f t j start n : �
   full =
       let len : Entry → ℕ = λ e. e.len in
       let e1 : Entry = shorter (entry es f) (node ns (entry es f).last).back in
-      let a = sum_by-set len es f e1 blank_entry lf in
+      let a = sum_by-set len es f e1 blank_entry mv.source in
       let lt' : t < length (set es f e1) = omega (arith, length-set es f e1) in
       let c = sum_by-set len (set es f e1) t (longer (entry es t) (entry es f).last) blank_entry lt' in
-      let o : entry (set es f e1) t ≡ entry es t = get_or-set_other es f t _ _ (λ e. ne (sym e)) in
+      let o : entry (set es f e1) t ≡ entry es t = get_or-set_other es f t _ _ (λ e. mv.other (sym e)) in
       let ol : (entry (set es f e1) t).len ≡ (entry es t).len = ap (λ (e : Entry). e.len) o in
-      let g = s.6 in
+      let g = mv.sound.full in
       let long = nodes_long in
       omega arith
 
   pub shift_sound : Sound ms ds
-  shift_sound = (owned, backed, jumps, lasts, single, apart, full)
+  shift_sound = record { owned = owned; backed = backed; jumps = jumps; lasts = lasts; single = single; apart = apart; full = full }
 
   module _ (val val' : ℕ → List ℕ) (same : (c : ℕ) → c < length ns → (c ≡ (entry es f).last → ⊥) → val' c ≡ val c) where
     begins_at : (i : ℕ) → i < length es → Begins ns (entry es i).number (entry es i).last (entry es i).len
-    begins_at i li h = s.3 i li h
+    begins_at i li h = mv.sound.lasts i li h
 
     here : (o m : ℕ) → ((c : ℕ) → c < length ns → (node ns c).owner ≡ o → (node ns c).place < m → c ≡ (entry es f).last → ⊥) →
         (k x : ℕ) → k ≤ m → Begins ns o x k → walk (λ c. (node ms c).back) val' x k ≡ walk (λ c. (node ns c).back) val x k
-    here o m out = walk_frame ns s.1 (λ c. (node ms c).back) val val' o m (λ c l oc pc. (ap (λ (x : Node). x.back) (node_other c (out c l oc pc)), same c l (out c l oc pc)))
+    here o m out = walk_frame ns mv.sound.backed (λ c. (node ms c).back) val val' o m (λ c l oc pc. (ap (λ (x : Node). x.back) (node_other c (out c l oc pc)), same c l (out c l oc pc)))
 
     -- the other chains stay
     pub walk_other : (i : ℕ) → i < length es → (i ≡ f → ⊥) → (i ≡ t → ⊥) →
@@ -250,7 +258,7 @@ module _ (ns : List Node) (es : List Entry) (s : Sound ns es) (f t j start n : �
     walk_other i li hf ht =
         let e = entry_other i hf ht in
         ap (λ (x : Entry). walk (λ c. (node ms c).back) val' x.last x.len) e
-        ∙ here (entry es i).number (entry es i).len (λ c l o p u. hf (s.5 i f (li, lf, sym o ∙ ap (λ (x : ℕ). (node ns x).owner) u ∙ moved.1))) _ _ (omega arith) (begins_at i li)
+        ∙ here (entry es i).number (entry es i).len (λ c l o p u. hf (mv.sound.apart i f (li, mv.source, sym o ∙ ap (λ (x : ℕ). (node ns x).owner) u ∙ moved.1))) _ _ (omega arith) (begins_at i li)
 
     -- one chain is longer by the node
     pub walk_to : walk (λ c. (node ms c).back) val' (entry ds t).last (entry ds t).len ≡ walk (λ c. (node ns c).back) val (entry es t).last (entry es t).len ++ val' (entry es f).last ∷ []
@@ -261,7 +269,7 @@ module _ (ns : List Node) (es : List Entry) (s : Sound ns es) (f t j start n : �
         (λ (z : (entry es t).len ≡ 0). rw z refl)
         (λ (z : (entry es t).len ≡ 0 → ⊥).
         let e : target ≡ (entry es t).last = cond-false _ _ _ (ne_eqb _ _ z) in
-        ap (λ (x : ℕ). walk (λ c. (node ms c).back) val' x (entry es t).len) e ∙ here (entry es t).number (entry es t).len out _ _ (omega arith) (begins_at t lt))
+        ap (λ (x : ℕ). walk (λ c. (node ms c).back) val' x (entry es t).len) e ∙ here (entry es t).number (entry es t).len out _ _ (omega arith) (begins_at t mv.target))
         (cases_eq (entry es t).len 0) in
         ap (λ (x : Entry). walk (λ c. (node ms c).back) val' x.last x.len) entry_to
         ∙ ap (λ (m : ℕ). walk (λ c. (node ms c).back) val' (entry es f).last m) (add-one (entry es t).len)
@@ -273,52 +281,82 @@ module _ (ns : List Node) (es : List Entry) (s : Sound ns es) (f t j start n : �
     walk_from =
         let m = (entry es f).len - 1 in
         let e : (entry es f).len ≡ suc m = omega arith in
-        let bs : Begins ns (entry es f).number (entry es f).last (suc m) = λ h. let a = s.3 f lf some in (a.0, a.1, a.2 ∙ e) in
+        let bs : Begins ns (entry es f).number (entry es f).last (suc m) = λ h. let a = mv.sound.lasts f mv.source mv.some in (a.0, a.1, a.2 ∙ e) in
         let front = here (entry es f).number m (λ c l o p u. let q : (node ns c).place ≡ (node ns (entry es f).last).place = ap (λ (x : ℕ). (node ns x).place) u in omega (arith, moved.2)) m
-        (node ns (entry es f).last).back (omega arith) (begins_back ns s.1 (entry es f).number (entry es f).last m bs) in
+        (node ns (entry es f).last).back (omega arith) (begins_back ns mv.sound.backed (entry es f).number (entry es f).last m bs) in
         ap (λ (k : ℕ). walk (λ c. (node ns c).back) val (entry es f).last k) e
         ∙ ap (λ (ws : List (List ℕ)). ws ++ val (entry es f).last ∷ []) (sym front)
         ∙ sym (ap (λ (x : Entry). walk (λ c. (node ms c).back) val' x.last x.len ++ val (entry es f).last ∷ []) entry_from)
 
-  module _ (count next : ℕ) (table : length es ≡ 257) (zero_is : (entry es 0).number ≡ 0) (numbers-are : Numbers es next) (unused : Unused es count) (idle : Idle ns)
-      (cf : count < f → ⊥) (ct : count < t → ⊥) (plain : t ≡ 0 → (start ≡ 0) × (n ≡ 0)) where
-    pub shift_table : length ds ≡ 257
-    shift_table = entries_long ∙ table
-
-    pub shift_zero : (entry ds 0).number ≡ 0
-    shift_zero = number_same 0 ∙ zero_is
-
-    pub shift_numbers : Numbers ds next
-    shift_numbers i l = subst (λ (x : ℕ). x < next) (sym (number_same i)) (numbers-are i (omega (arith, entries_long)))
-
-    pub shift_unused : Unused ds count
+  -- what a directory keeps stays
+  module _ {count next : ℕ} (o : Order ns es count next) (cf : f ≤ count) (ct : t ≤ count) (plain : t ≡ 0 → (start ≡ 0) × (n ≡ 0)) where
+    shift_unused : Unused ds count
     shift_unused i (h, l) =
-        let e : entry ds i ≡ entry es i = entry_other i (λ u. cf (subst (λ (x : ℕ). count < x) u h)) (λ u. ct (subst (λ (x : ℕ). count < x) u h)) in
-        rw e (unused i (h, omega (arith, entries_long)))
+        let e : entry ds i ≡ entry es i = entry_other i (λ u. omega arith) (λ u. omega arith) in
+        rw e (o.unused i (h, omega (arith, entries_long)))
 
-    pub shift_idle : Idle ms
-    shift_idle c (l, o) =
+    shift_idle : Idle ms
+    shift_idle c (l, w) =
         ⊎_elim
         (λ (e : c ≡ (entry es f).last).
-        let w : node ms c ≡ linked (entry es t) (entry es f).last j start n = ap (node ms) e ∙ node_here in
-        let z : t ≡ 0 = s.5 t 0 (lt, omega (arith, table), sym (ap (λ (x : Node). x.owner) w) ∙ o ∙ sym zero_is) in
-        rw w (plain z))
+        let w' : node ms c ≡ linked (entry es t) (entry es f).last j start n = ap (node ms) e ∙ node_here in
+        let z : t ≡ 0 = mv.sound.apart t 0 (mv.target, omega (arith, o.table), sym (ap (λ (x : Node). x.owner) w') ∙ w ∙ sym o.free) in
+        rw w' (plain z))
         (λ (h : c ≡ (entry es f).last → ⊥).
-        let w : node ms c ≡ node ns c = node_other c h in
-        rw w (idle c (omega (arith, nodes_long), sym (ap (λ (x : Node). x.owner) w) ∙ o)))
+        let w' : node ms c ≡ node ns c = node_other c h in
+        rw w' (o.idle c (omega (arith, nodes_long), sym (ap (λ (x : Node). x.owner) w') ∙ w)))
         (cases_eq c (entry es f).last)
 
+    pub shift_order : Order ms ds count next
+    shift_order = record {
+      sound = shift_sound;
+      small = omega (arith, nodes_long, o.small);
+      table = entries_long ∙ o.table;
+      few = o.few;
+      ends = o.ends;
+      free = number_same 0 ∙ o.free;
+      numbers = λ i l. subst (λ (x : ℕ). x < next) (sym (number_same i)) (o.numbers i (omega (arith, entries_long)));
+      unused = shift_unused;
+      idle = shift_idle;
+    }
+
 -- the jump that the code computes is lawful
-pub jump_ok : (ns : List Node) (es : List Entry) → Sound ns es → (f t : ℕ) → t < length es → JumpOk ns es t (entry es f).last (jump_of ns es f t)
-jump_ok ns es s f t lt = (
+jump_ok : {ns : List Node} {es : List Entry} → Sound ns es → (f t : ℕ) → t < length es → JumpOk ns es t (entry es f).last (jump_of ns es f t)
+jump_ok {ns = ns} {es} s f t lt = (
   (λ z. cond-true _ _ _ (eq-eqb _ _ z)),
   (λ h.
       let x = (entry es t).last in
-      let a = s.3 t lt h in
-      let k = s.2 x a.0 in
-      let m = s.2 (node ns x).jump k.0 in
+      let a = s.lasts t lt h in
+      let k = s.jumps x a.0 in
+      let m = s.jumps (node ns x).jump k.0 in
       let e : jump_of ns es f t ≡ far_of ns x = cond-false _ _ _ (ne_eqb _ _ (λ (z : (entry es t).len ≡ 0). omega arith)) in
       rw e (cond_both _ (node ns (node ns x).jump).jump x (λ y. (y < length ns) × ((node ns y).owner ≡ (entry es t).number) × ((node ns y).place + 1 ≤ (entry es t).len))
       (λ _. (m.0, m.1 ∙ k.1 ∙ a.1, omega (arith, m.2, k.2, a.2)))
       (λ _. (a.0, a.1, omega (arith, a.2))))),
 )
+
+pub moves_of : {ns : List Node} {es : List Entry} {count next : ℕ} (o : Order ns es count next) (f t : ℕ) → f ≤ count → t ≤ count → (f ≡ t → ⊥) → 0 < (entry es f).len → Moves ns es f t (jump_of ns es f t)
+moves_of o f t lf lt ne some = record {
+  sound = o.sound;
+  source = omega (arith, o.table, o.few);
+  target = omega (arith, o.table, o.few);
+  other = ne;
+  some = some;
+  jump = jump_ok o.sound f t (omega (arith, o.table, o.few));
+}
+
+-- a chain is no longer than there are nodes
+pub len_most : {ns : List Node} {es : List Entry} (i : ℕ) → Sound ns es → i < length es → (entry es i).len ≤ length ns
+len_most {es = es} i s l = omega (arith, get_or-le-sum_by (λ (e : Entry). e.len) es i blank_entry l, s.full)
+
+-- the same, where the code's words stand for the results
+pub shift_order_is : {ns : List Node} {es : List Entry} {count next : ℕ} (o : Order ns es count next) (f t start n : ℕ) → Moves ns es f t (jump_of ns es f t) → f ≤ count → t ≤ count → (t ≡ 0 → (start ≡ 0) × (n ≡ 0)) →
+    (back jump before : ℕ) → back ≡ cond (eqb (entry es t).len 0) (entry es f).last (entry es t).last → jump ≡ jump_of ns es f t → before ≡ (node ns (entry es f).last).back →
+    Order (set ns (entry es f).last (record { owner = (entry es t).number; place = (entry es t).len; back = back; jump = jump; start = start; length = n }))
+    (set (set es f (shorter (entry es f) before)) t (longer (entry es t) (entry es f).last)) count next
+shift_order_is {ns = ns} {es} {count} {next} o f t start n mv cf ct plain back jump before e g h =
+    let b = (entry es f).last in
+    let made : ℕ → ℕ → ℕ → Type 0 = λ x y z. Order (set ns b (record { owner = (entry es t).number; place = (entry es t).len; back = x; jump = y; start = start; length = n }))
+    (set (set es f (shorter (entry es f) z)) t (longer (entry es t) b)) count next in
+    subst (λ (x : ℕ). made x jump before) (sym e) (subst (λ (y : ℕ). made (cond (eqb (entry es t).len 0) b (entry es t).last) y before) (sym g)
+    (subst (λ (z : ℕ). made (cond (eqb (entry es t).len 0) b (entry es t).last) (jump_of ns es f t) z) (sym h) (shift_order mv start n o cf ct plain)))

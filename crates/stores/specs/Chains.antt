@@ -1,6 +1,8 @@
 -- The chains of batches: what the nodes and the entries of a store's memory represent. Assumes nothing.
-use Rattle.std.specs.Prelude.{◌≡◌, ℕ, zero, suc, ◌+◌, ◌-◌, ◌^◌, ◌<◌, ◌≤◌, true, false, cond, List, [], ◌∷◌, ◌++◌, length, Some, None, sum_by, Option, ◌==◌, ◌≢◌, nat_lt, slice_index, slice_index_or, slice_set}
+use Rattle.std.specs.Prelude.{◌≡◌, ℕ, zero, suc, ◌+◌, ◌-◌, ◌*◌, ◌^◌, ◌<◌, ◌≤◌, true, false, cond, List, [], ◌∷◌, ◌++◌, length, Some, None, Ok, Err, sum_by, Option, Result, ◌==◌, ◌≢◌, nat_lt, slice_index, slice_index_or, slice_set}
 use Rattle.std.specs.List.{remove}
+use Rattle.resources.specs.declared.cause.Cause.{Cause}
+use Rattle.resources.specs.declared.cause.Cause.TheVariants.{Misuse}
 use Rattle.stores.specs.declared.node.Node.{Node}
 use Rattle.stores.specs.declared.node.Entry.{Entry}
 
@@ -44,16 +46,6 @@ module _ (ns : List Node) (es : List Entry) where
   Lasts = (i : ℕ) → i < length es → 0 < (entry es i).len →
       ((entry es i).last < length ns) × ((node ns (entry es i).last).owner ≡ (entry es i).number) × ((node ns (entry es i).last).place + 1 ≡ (entry es i).len)
 
-  -- the same, one by one
-  abbrev pub LastIn : Type 0
-  LastIn = (i : ℕ) → (i < length es) × (0 < (entry es i).len) → (entry es i).last < length ns
-
-  abbrev pub LastOwner : Type 0
-  LastOwner = (i : ℕ) → (i < length es) × (0 < (entry es i).len) → (node ns (entry es i).last).owner ≡ (entry es i).number
-
-  abbrev pub LastPlace : Type 0
-  LastPlace = (i : ℕ) → (i < length es) × (0 < (entry es i).len) → (node ns (entry es i).last).place + 1 ≡ (entry es i).len
-
   -- no two nodes have one place of one chain
   abbrev pub Single : Type 0
   Single = (b c : ℕ) → (b < length ns) × (c < length ns) × ((node ns b).owner ≡ (node ns c).owner) × ((node ns b).place ≡ (node ns c).place) → b ≡ c
@@ -66,17 +58,23 @@ module _ (ns : List Node) (es : List Entry) where
   abbrev pub Full : Type 0
   Full = sum_by (λ e. e.len) es ≡ length ns
 
-  -- the chains are in good order
-  abbrev pub Sound : Type 0
-  Sound = Owned × Backed × Jumps × Lasts × Single × Apart × Full
+-- the chains are in good order
+pub record Sound (ns : List Node) (es : List Entry) : Type 0 where
+  pub owned : Owned ns es
+  pub backed : Backed ns es
+  pub jumps : Jumps ns es
+  pub lasts : Lasts ns es
+  pub single : Single ns es
+  pub apart : Apart ns es
+  pub full : Full ns es
 
 -- the entry without its last node, whose node before is x
 abbrev pub shorter : Entry → ℕ → Entry
-shorter e x = record { number = e.number; live = e.live; last = x; len = e.len - 1 }
+shorter e x = record e { last = x; len = e.len - 1 }
 
 -- the entry with the node b behind its last
 abbrev pub longer : Entry → ℕ → Entry
-longer e b = record { number = e.number; live = e.live; last = b; len = e.len + 1 }
+longer e b = record e { last = b; len = e.len + 1 }
 
 -- the node b as the last of an entry's chain
 abbrev pub linked : Entry → ℕ → ℕ → ℕ → ℕ → Node
@@ -109,13 +107,25 @@ Unused es count = (i : ℕ) → (count < i) × (i < length es) → ((entry es i)
 abbrev pub Idle : List Node → Type 0
 Idle ns = (b : ℕ) → (b < length ns) × ((node ns b).owner ≡ 0) → ((node ns b).start ≡ 0) × ((node ns b).length ≡ 0)
 
+-- what a directory keeps, with `count` files and `next` for the next new number
+pub record Order (ns : List Node) (es : List Entry) (count next : ℕ) : Type 0 where
+  pub sound : Sound ns es
+  pub small : length ns ≤ 262144
+  pub table : length es ≡ 257
+  pub few : count ≤ 256
+  pub ends : next ≤ 2 ^ 32
+  pub free : (entry es 0).number ≡ 0
+  pub numbers : Numbers es next
+  pub unused : Unused es count
+  pub idle : Idle ns
+
 -- no batch has more than 64 words
 abbrev pub Short : List Node → Type 0
 Short ns = (b : ℕ) → b < length ns → (node ns b).length ≤ 64
 
 -- the entry, finished
 abbrev pub closed : Entry → Entry
-closed e = record { number = e.number; live = false; last = e.last; len = e.len }
+closed e = record e { live = false }
 
 -- what an entry's chain holds, where v says what a node holds
 abbrev pub held : List Node → (ℕ → Node → List ℕ) → Entry → List (List ℕ)
@@ -152,14 +162,28 @@ free_node b = record { owner = 0; place = b; back = b - 1; jump = b - 1; start =
 -- a table without files, with n free nodes
 pub record Blank (n : ℕ) (es : List Entry) : Type 0 where
   pub table : length es ≡ 257
-  pub free : entry es 0 ≡ record { number = 0; live = true; last = n - 1; len = n }
+  pub free : entry es 0 ≡ record (spare 0) { last = n - 1; len = n }
   pub files : (i : ℕ) → 0 < i → i < 257 → entry es i ≡ spare i
   pub total : sum_by (λ e. e.len) es ≡ n
 
+-- the place of an entry in use
+abbrev pub InUse : ℕ → ℕ → Type 0
+InUse count i = (0 < i) × (i ≤ count)
+
+-- the place of the entry in use with the number n; or none in use has it
+abbrev pub Sought : List Entry → ℕ → ℕ → Option ℕ → Type 0
+Sought es count n None = (i : ℕ) → 0 < i → i ≤ count → (entry es i).number ≢ n
+Sought es count n (Some i) = (0 < i) × (i ≤ count) × ((entry es i).number ≡ n)
+
+-- the place of the open entry in use with the number n; or none in use with it is open
+abbrev pub SoughtOpen : List Entry → ℕ → ℕ → Result ℕ Cause → Type 0
+SoughtOpen es count n (Ok i) = (0 < i) × (i ≤ count) × ((entry es i).number ≡ n) × ((entry es i).live ≡ true)
+SoughtOpen es count n (Err c) = (c ≡ Misuse) × ((i : ℕ) → 0 < i → i ≤ count → (entry es i).number ≡ n → (entry es i).live ≡ false)
+
 -- the node of batch k of the file n, in an entry in use; or no entry in use with the number has as many
-abbrev pub Located : List Node → List Entry → ℕ → ℕ → ℕ → Option ℕ → Type 0
-Located ns es count n k None = (i : ℕ) → 0 < i → i ≤ count → (entry es i).number ≡ n → (entry es i).len ≤ k
-Located ns es count n k (Some b) = (i : ℕ) × (0 < i) × (i ≤ count) × ((entry es i).number ≡ n) × (k < (entry es i).len) × (b < length ns) × ((node ns b).owner ≡ n) × ((node ns b).place ≡ k)
+abbrev pub Located : List Node → List Entry → ℕ → ℕ → ℕ → Result ℕ Cause → Type 0
+Located ns es count n k (Ok b) = (i : ℕ) × (0 < i) × (i ≤ count) × ((entry es i).number ≡ n) × (k < (entry es i).len) × (b < length ns) × ((node ns b).owner ≡ n) × ((node ns b).place ≡ k)
+Located ns es count n k (Err c) = (c ≡ Misuse) × ((i : ℕ) → 0 < i → i ≤ count → (entry es i).number ≡ n → (entry es i).len ≤ k)
 
 -- the words of every node lie before the end
 abbrev pub Below : List Node → ℕ → Type 0
@@ -168,3 +192,12 @@ Below ns end = (b : ℕ) → b < length ns → (node ns b).start + (node ns b).l
 -- a zero word stands at the end, if it fits
 abbrev pub Marked : List ℕ → ℕ → Type 0
 Marked words end = end < length words → slice_index words end ≡ 0
+
+-- what a log store keeps, whose run of records ends at `end`
+pub record Run (ns : List Node) (es : List Entry) (words : List ℕ) (end : ℕ) : Type 0 where
+  pub within : end ≤ length words
+  pub low : Below ns end
+  pub short : Short ns
+  pub mark : Marked words end
+  pub enough : length words ≤ length ns * 3 + 2
+  pub thin : length ns * 3 ≤ end + (entry es 0).len * 3

@@ -1,83 +1,11 @@
 -- What the delivered stores hold, and exactly what they answer. Assumes nothing.
-use Rattle.std.specs.Prelude.{◌≡◌, ℕ, ◌+◌, ◌-◌, ◌*◌, ◌/◌, ◌<◌, ◌≤◌, Bool, false, cond, ◌⊎◌, List, [], ◌∷◌, map, length, take, drop, Some, None, vec_items, sum_by, Option, ◌==◌, ◌≢◌, nat_eq, nat_le, nat_lt, slice_set}
+use Rattle.std.specs.Prelude.{◌≡◌, ℕ, ◌+◌, ◌*◌, ◌/◌, cond, List, ◌∷◌, length, take, drop, None, vec_items, nat_le, nat_lt, slice_set}
 use Rattle.std.proofs.Math.Seq.{paste}
-use Rattle.resources.specs.declared.cause.Cause.TheVariants.{NoSpace, Misuse}
 use Rattle.stores.specs.declared.node.Node.{Node}
-use Rattle.stores.specs.declared.node.Entry.{Entry}
 use Rattle.stores.specs.declared.block.BlockStore.{BlockStore}
 use Rattle.stores.specs.declared.log.LogStore.{LogStore}
-use Rattle.resources.specs.Files.{File, Files, live_at, batch_at, may_append, Ask, create, append, finish, read, remove, Reply, number, done, failed}
-use Rattle.stores.specs.Chains.{entry, held}
-
--- the files in use, in the order of their creation
-abbrev pub in_use : List Entry → ℕ → List Entry
-in_use es count = take count (drop 1 es)
-
--- their numbers
-abbrev pub numbers_of : List Entry → ℕ → List ℕ
-numbers_of es count = map (λ e. e.number) (in_use es count)
-
--- the file of an entry, where v says what a node holds
-abbrev pub file_of : List Node → (ℕ → Node → List ℕ) → Entry → File
-file_of ns v e = record { live = e.live; batches = held ns v e }
-
-abbrev pub files_of : List Node → (ℕ → Node → List ℕ) → List Entry → ℕ → List File
-files_of ns v es count = map (file_of ns v) (in_use es count)
-
--- the value beside the first key that is n
-abbrev pub lookup : {X : Type 0} → List ℕ → List X → ℕ → Option X
-lookup [] vs n = None
-lookup (k ∷ ks) [] n = None
-lookup (k ∷ ks) (v ∷ vs) n = cond (nat_eq n k) (Some v) (lookup ks vs n)
-
--- the file of each number
-abbrev pub files_in : List Node → (ℕ → Node → List ℕ) → List Entry → ℕ → Files
-files_in ns v es count = lookup (numbers_of es count) (files_of ns v es count)
-
--- how many files there are, and how many batches in all of them
-pub record Load : Type 0 where
-  pub files : ℕ
-  pub batches : ℕ
-
-abbrev pub load_of : List File → Load
-load_of fs = record { files = length fs; batches = sum_by (λ f. length f.batches) fs }
-
--- a file less
-abbrev pub without : Load → Option File → Load
-without m None = m
-without m (Some f) = record { files = m.files - 1; batches = m.batches - length f.batches }
-
--- what a call makes of it
-abbrev pub load_after : Load → Files → Ask → Reply → Load
-load_after m fs create (number n) = record { files = m.files + 1; batches = m.batches }
-load_after m fs create done = m
-load_after m fs create (failed c) = m
-load_after m fs (append n ws) (number k) = m
-load_after m fs (append n ws) done = record { files = m.files; batches = m.batches + 1 }
-load_after m fs (append n ws) (failed c) = m
-load_after m fs (finish n) r = m
-load_after m fs (read n k) r = m
-load_after m fs (remove n) r = without m (fs n)
-
--- what decides the answer: the files, how many there are, the number for the next, and whether a batch finds space
-pub record View : Type 0 where
-  pub files : Files
-  pub load : Load
-  pub new : ℕ
-  pub space : List ℕ → Bool
-
--- the length of the batch, or misuse
-abbrev pub read_reply : Option (List ℕ) → Reply
-read_reply None = failed Misuse
-read_reply (Some ws) = number (length ws)
-
--- the answer: no space exactly with 256 files, or at a lawful append without space; misuse exactly at a call that is not allowed; the device never fails
-abbrev pub answer : View → Ask → Reply
-answer m create = cond (nat_lt m.load.files 256) (number m.new) (failed NoSpace)
-answer m (append n ws) = cond (may_append m.files n ws) (cond (m.space ws) done (failed NoSpace)) (failed Misuse)
-answer m (finish n) = cond (live_at (m.files n)) done (failed Misuse)
-answer m (read n k) = read_reply (batch_at (m.files n) k)
-answer m (remove n) = done
+use Rattle.resources.specs.Files.{Files, Ask, create, append, finish, read, remove, Reply, number, done, failed}
+use Rattle.stores.specs.Filed.{Load, load_after, View, answer, restarts, dir_files, dir_load, dir_view, FitFor, UnfitFor}
 
 -- the words of a block: block c begins at the word 64 c
 abbrev pub block_val : List ℕ → ℕ → Node → List ℕ
@@ -85,10 +13,10 @@ block_val words c nd = take nd.length (drop (c * 64) words)
 
 -- the files of a block store
 abbrev pub block_files : BlockStore → Files
-block_files s = files_in (vec_items s.dir.nodes) (block_val (vec_items s.memory.words)) s.dir.entries s.dir.count
+block_files s = dir_files s.dir (block_val (vec_items s.memory.words))
 
 abbrev pub block_load : BlockStore → Load
-block_load s = load_of (files_of (vec_items s.dir.nodes) (block_val (vec_items s.memory.words)) s.dir.entries s.dir.count)
+block_load s = dir_load s.dir (block_val (vec_items s.memory.words))
 
 -- how many blocks there are
 abbrev pub blocks : BlockStore → ℕ
@@ -96,7 +24,7 @@ blocks s = length (vec_items s.dir.nodes)
 
 -- a batch finds space while a block is free
 abbrev pub block_view : BlockStore → View
-block_view s = record { files = block_files s; load = block_load s; new = (entry s.dir.entries (s.dir.count + 1)).number; space = λ ws. nat_lt (block_load s).batches (blocks s) }
+block_view s = dir_view s.dir (block_val (vec_items s.memory.words)) (λ ws. nat_lt (block_load s).batches (blocks s))
 
 -- what exactly a call of a block store does
 pub record BlockSteps (s : BlockStore) (a : Ask) (r : Reply) (t : BlockStore) : Type 0 where
@@ -112,11 +40,11 @@ pub record BlockOpened (w : ℕ) (s : BlockStore) : Type 0 where
 
 -- not too many words, and a node for each block
 abbrev pub Fit : ℕ → ℕ → Type 0
-Fit w n = (w ≤ 262144) × (n ≡ w / 64)
+Fit = FitFor 64
 
 -- too many words, or not a node for each block
 abbrev pub Unfit : ℕ → ℕ → Type 0
-Unfit w n = (262144 < w) ⊎ (n ≢ w / 64)
+Unfit = UnfitFor 64
 
 -- a record: the number of the file, the length, and then the words
 abbrev pub record_of : ℕ → List ℕ → List ℕ
@@ -136,10 +64,10 @@ log_val words c nd = take nd.length (drop nd.start words)
 
 -- the files of a log store
 abbrev pub log_files : LogStore → Files
-log_files s = files_in (vec_items s.dir.nodes) (log_val (vec_items s.memory.words)) s.dir.entries s.dir.count
+log_files s = dir_files s.dir (log_val (vec_items s.memory.words))
 
 abbrev pub log_load : LogStore → Load
-log_load s = load_of (files_of (vec_items s.dir.nodes) (log_val (vec_items s.memory.words)) s.dir.entries s.dir.count)
+log_load s = dir_load s.dir (log_val (vec_items s.memory.words))
 
 -- all its words
 abbrev pub log_words : LogStore → List ℕ
@@ -147,12 +75,7 @@ log_words s = vec_items s.memory.words
 
 -- a batch finds space while what is left of the run has room for two words and the batch
 abbrev pub log_view : LogStore → View
-log_view s = record { files = log_files s; load = log_load s; new = (entry s.dir.entries (s.dir.count + 1)).number; space = λ ws. nat_le (s.end + 2 + length ws) (length (log_words s)) }
-
--- a remove that takes the last file away restarts the run
-abbrev pub restarts : Load → Option File → Bool
-restarts m None = false
-restarts m (Some f) = m.files == 1
+log_view s = dir_view s.dir (log_val (vec_items s.memory.words)) (λ ws. nat_le (s.end + 2 + length ws) (length (log_words s)))
 
 -- where the next record begins after a call
 abbrev pub end_after : ℕ → Load → Files → Ask → Reply → ℕ
@@ -190,8 +113,8 @@ pub record LogOpened (given : List ℕ) (s : LogStore) : Type 0 where
 
 -- not too many words, and a node for each of the shortest records that find room
 abbrev pub Fitting : ℕ → ℕ → Type 0
-Fitting w n = (w ≤ 262144) × (n ≡ w / 3)
+Fitting = FitFor 3
 
 -- too many words, or not a node for each of the shortest records that find room
 abbrev pub Unfitting : ℕ → ℕ → Type 0
-Unfitting w n = (262144 < w) ⊎ (n ≢ w / 3)
+Unfitting = UnfitFor 3

@@ -4,13 +4,16 @@
 //     LogStore     | file n w .. | file n w .. | 0 ..           one record behind another, until the last file goes
 //
 // Both keep their files in a directory: which file has which batches, and where each batch lies.
+// Two types and no one type over a layout: only the block store picks a free block, and only the log store has an end that restarts.
 #![tactic(auto)]
 
 pub mod block;
-pub mod blocks;
-pub mod chains;
 pub(crate) mod directory;
 pub mod log;
-pub mod logs;
 pub(crate) mod memory;
 pub mod node;
+
+// The bounds of the stores.
+pub mod blocks {
+    pub use crate::directory::{FILES_MOST, STORE_WORDS};
+}

@@ -1,7 +1,9 @@
 // The words that a store lays its batches in.
-ghost use Rattle.std.specs.Prelude.{◌≡◌, ◌+◌, ◌<◌, ◌≤◌, ◌++◌, length, take, drop};
+ghost use Rattle.std.specs.Prelude.{◌≡◌, ◌+◌, ◌≤◌, ◌++◌, length, take, drop};
 ghost use Rattle.std.proofs.Math.Seq.{paste};
 ghost use Rattle.stores.specs.Stores.{zeroed, recorded};
+
+use crate::log::RECORD_HEAD;
 
 #[derive(Drop)]
 pub(crate) struct Memory {
@@ -14,9 +16,7 @@ impl Memory {
         requires { at + length batch.now ≤ length self.old.words.items }
         ensures words { self.new.words.items ≡ paste self.old.words.items at batch.now (length batch.now) }
     {
-        for j in 0..batch.len() {
-            self.words[at + j] = batch[j];
-        }
+        self.words[at..at + batch.len()].copy_from_slice(batch);
     }
 
     // Copies `n` words from `at` on to the front of the place.
@@ -24,17 +24,15 @@ impl Memory {
         requires { (at + n ≤ length self.now.words.items) × (n ≤ 64) × (length place.old ≡ 64) }
         ensures { place.new ≡ take n (drop at self.now.words.items) ++ drop n place.old }
     {
-        for j in 0..n {
-            place[j] = self.words[at + j];
-        }
+        place[..n].copy_from_slice(&self.words[at..at + n]);
     }
 
     // Writes a zero word at the place, if it is there.
     pub(crate) fn mark(&mut self, at: usize)
         ensures { self.new.words.items ≡ zeroed self.old.words.items at }
     {
-        if at < self.words.len() {
-            self.words[at] = 0;
+        if let Some(word) = self.words.get_mut(at) {
+            *word = 0;
         }
     }
 
@@ -46,7 +44,7 @@ impl Memory {
         let n = batch.len();
         self.words[at] = u64::from(file);
         self.words[at + 1] = n as u64;
-        self.lay(at + 2, batch);
-        self.mark(at + 2 + n);
+        self.lay(at + RECORD_HEAD, batch);
+        self.mark(at + RECORD_HEAD + n);
     }
 }

@@ -1,29 +1,12 @@
 -- The table closes up; all chains stay.
-use Rattle.stores.proofs.Orders.{order_of}
-use Rattle.stores.proofs.Entries.{drop_order_is}
+use Rattle.stores.proofs.Entries.{drop_order_is, closes_up}
 use Rattle.stores.proofs.directory.Directory.drop_entry.Goals as goal
 
 pub invariant_of-self : goal.invariant_of-self
 invariant_of-self c =
     let d = c.args.self.now in
-    let o =
-    drop_order_is _ _ d.count d.next c.args.i (order_of d) c.requires.0 c.requires.1 c.requires.2 _ _ _ c.close_up-self.ensures c.renew-number.ensures c.following-next.ensures in
-    record {
-      owned = o.0;
-      backed = o.1.0;
-      jumps = o.1.1.0;
-      lastin = o.1.1.1.0;
-      lastowner = o.1.1.1.1.0;
-      lastplace = o.1.1.1.1.1.0;
-      single = o.1.1.1.1.1.1.0;
-      apart = o.1.1.1.1.1.1.1.0;
-      full = o.1.1.1.1.1.1.1.1.0;
-      small = o.1.1.1.1.1.1.1.1.1.0;
-      table = o.1.1.1.1.1.1.1.1.1.1.0;
-      few = o.1.1.1.1.1.1.1.1.1.1.1.0;
-      ends = o.1.1.1.1.1.1.1.1.1.1.1.1.0;
-      «zero» = o.1.1.1.1.1.1.1.1.1.1.1.1.1.0;
-      numbers = o.1.1.1.1.1.1.1.1.1.1.1.1.1.1.0;
-      unused = o.1.1.1.1.1.1.1.1.1.1.1.1.1.1.1.0;
-      idle = o.1.1.1.1.1.1.1.1.1.1.1.1.1.1.1.1.0;
-    }
+    let e = closes_up d.order c.args.i c.requires.0.0 c.requires.0.1 _ c.rotate_left.ensures.after _ c.spare.ensures c.renew-number.ensures.0 in
+    record { order = drop_order_is d.order c.args.i c.requires.0.0 c.requires.0.1 c.requires.1 _ _ e c.renew-number.ensures.1 }
+
+pub returns-clause-entries : goal.returns-clause-entries
+returns-clause-entries c = closes_up c.args.self.now.order c.args.i c.requires.0.0 c.requires.0.1 _ c.rotate_left.ensures.after _ c.spare.ensures c.renew-number.ensures.0

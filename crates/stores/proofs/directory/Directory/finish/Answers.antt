@@ -1,29 +1,17 @@
--- Only the mark changes.
-use Rattle.stores.proofs.Orders.{order_of}
+-- No open file, or only the mark changes.
+use Rattle.std.proofs.Common.{refl}
+use Rattle.std.proofs.lemmas.Result.{err_from_is_err_and}
 use Rattle.stores.proofs.Entries.{finish_order}
+use Rattle.stores.proofs.Replies.{finishes, no_finish}
 use Rattle.stores.proofs.directory.Directory.finish.Goals as goal
 
+pub returns-in_err-i : goal.returns-in_err-i
+returns-in_err-i c =
+    let p = err_from_is_err_and c.from_residual.result c.from_residual.ensures.1 in
+    rw (p.1, p.2) (no_finish c.args.self.now c.args.file _ c.in_err-i.ensures)
+
 pub invariant_of-self : goal.invariant_of-self
-invariant_of-self c =
-    let d = c.args.self.now in
-    let o =
-    finish_order _ _ d.count d.next c.args.i (order_of d) c.requires.0 c.requires.1 in
-    record {
-      owned = o.0;
-      backed = o.1.0;
-      jumps = o.1.1.0;
-      lastin = o.1.1.1.0;
-      lastowner = o.1.1.1.1.0;
-      lastplace = o.1.1.1.1.1.0;
-      single = o.1.1.1.1.1.1.0;
-      apart = o.1.1.1.1.1.1.1.0;
-      full = o.1.1.1.1.1.1.1.1.0;
-      small = o.1.1.1.1.1.1.1.1.1.0;
-      table = o.1.1.1.1.1.1.1.1.1.1.0;
-      few = o.1.1.1.1.1.1.1.1.1.1.1.0;
-      ends = o.1.1.1.1.1.1.1.1.1.1.1.1.0;
-      «zero» = o.1.1.1.1.1.1.1.1.1.1.1.1.1.0;
-      numbers = o.1.1.1.1.1.1.1.1.1.1.1.1.1.1.0;
-      unused = o.1.1.1.1.1.1.1.1.1.1.1.1.1.1.1.0;
-      idle = o.1.1.1.1.1.1.1.1.1.1.1.1.1.1.1.1.0;
-    }
+invariant_of-self c = record { order = finish_order c.args.self.now.order c.in_ok-i.i c.in_ok-i.ensures.0 c.in_ok-i.ensures.1 }
+
+pub returns : goal.returns
+returns c = finishes c.args.self.now _ c.in_ok-i.i c.args.file c.in_ok-i.ensures refl refl refl refl

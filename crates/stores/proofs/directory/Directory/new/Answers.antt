@@ -1,28 +1,10 @@
 -- Every node is free, and no entry is in use.
-use Rattle.std.proofs.Common.{vec_items, ◌∙◌}
+use Rattle.std.proofs.Common.{◌≤◌, length, vec_items, ◌∙◌, arith}
+use Rattle.std.proofs.Math.Nat.{div-le_self}
 use Rattle.stores.proofs.Openings.{open_order_is}
 use Rattle.stores.proofs.directory.Directory.new.Goals as goal
 
 pub invariant_of-result : goal.invariant_of-result
 invariant_of-result c =
-    let o =
-    open_order_is (vec_items c.args.nodes) (vec_items c.free_all.new.nodes) c.blank_table-entries.result c.requires c.len.result (c.len.ensures ∙ c.free_all.new.nodes.ok.0) c.free_all.ensures.long c.blank_table-entries.ensures c.free_all.ensures.free in
-    record {
-      owned = o.0;
-      backed = o.1.0;
-      jumps = o.1.1.0;
-      lastin = o.1.1.1.0;
-      lastowner = o.1.1.1.1.0;
-      lastplace = o.1.1.1.1.1.0;
-      single = o.1.1.1.1.1.1.0;
-      apart = o.1.1.1.1.1.1.1.0;
-      full = o.1.1.1.1.1.1.1.1.0;
-      small = o.1.1.1.1.1.1.1.1.1.0;
-      table = o.1.1.1.1.1.1.1.1.1.1.0;
-      few = o.1.1.1.1.1.1.1.1.1.1.1.0;
-      ends = o.1.1.1.1.1.1.1.1.1.1.1.1.0;
-      «zero» = o.1.1.1.1.1.1.1.1.1.1.1.1.1.0;
-      numbers = o.1.1.1.1.1.1.1.1.1.1.1.1.1.1.0;
-      unused = o.1.1.1.1.1.1.1.1.1.1.1.1.1.1.1.0;
-      idle = o.1.1.1.1.1.1.1.1.1.1.1.1.1.1.1.1.0;
-    }
+    let small : length (vec_items c.args.nodes) ≤ 262144 = omega (arith, c.if-words-gt-STORE_WORDS.false, c.if-len-words.false, c.len.ensures, c.args.nodes.ok.0, div-le_self c.args.words c.args.each) in
+    record { order = open_order_is (vec_items c.args.nodes) (vec_items c.free_all.new.nodes) c.blank_table-entries.result small c.len-2.result (c.len-2.ensures ∙ c.free_all.new.nodes.ok.0) c.free_all.ensures.long c.blank_table-entries.ensures c.free_all.ensures.free }

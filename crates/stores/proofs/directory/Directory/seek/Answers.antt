@@ -1,19 +1,11 @@
--- The first entry with the number is the one; where there is none, none before the end has it.
-use Rattle.std.proofs.Common.{◌≡◌, ℕ, sym, ap, ◌∙◌, ⊎_elim, arith}
-use Rattle.std.proofs.lemmas.Bool.{cases_eq}
-use Rattle.stores.specs.Chains.{entry}
+-- No entry in use has the number, or the first that has it.
+use Rattle.std.proofs.Common.{ℕ, ◌+◌, Some, None, sym, ap, ◌∙◌}
+use Rattle.std.specs.Option.{option_map}
+use Rattle.stores.proofs.Tables.{sought_is}
 use Rattle.stores.proofs.directory.Directory.seek.Goals as goal
 
-pub returns-then-self-i : goal.returns-then-self-i
-returns-then-self-i c = record {
-  within = omega (arith, c.loop-i-test.true);
-  found = λ _. c.if-self-i.true;
-  none = λ z. absurd (omega (arith, c.loop-i.auto.i));
-}
+pub returns-in_err-before : goal.returns-in_err-before
+returns-in_err-before c = rw c.from_residual.ensures (sought_is c.args.self.now.order c.args.file None (ap (option_map (λ (i : ℕ). i + 1)) (sym c.in_err-before.was ∙ c.position_of.ensures)))
 
-pub loop-i-preserved : goal.loop-i-preserved
-loop-i-preserved c j p l e =
-    ⊎_elim
-    (λ (h : j ≡ c.loop-i.i). c.if-self-i.false (ap (λ (k : ℕ). (entry c.args.self.now.entries k).number) (sym h) ∙ e))
-    (λ (h : j ≡ c.loop-i.i → ⊥). c.loop-i.invariant j p (omega arith) e)
-    (cases_eq j c.loop-i.i)
+pub returns : goal.returns
+returns c = sought_is c.args.self.now.order c.args.file (Some (c.in_ok-before.before + 1)) (ap (option_map (λ (i : ℕ). i + 1)) (sym c.in_ok-before.was ∙ c.position_of.ensures))

@@ -1,0 +1,17 @@
+-- The directory's create; no node changes.
+use Rattle.std.proofs.Common.{List, refl, ap}
+use Rattle.stores.specs.declared.node.Entry.{Entry}
+use Rattle.stores.specs.Chains.{entry}
+use Rattle.stores.specs.Stores.{log_val, log_view, log_words}
+use Rattle.stores.proofs.Logging.{keeps_same}
+use Rattle.stores.proofs.log.LogStoreStore.create.Goals as goal
+
+pub invariant_of-self : goal.invariant_of-self
+invariant_of-self c = record { run = keeps_same c.args.self.now c.create.new.self c.create.ensures.nodes (ap (λ (x : List Entry). (entry x 0).len) c.create.ensures.entries) }
+
+pub returns : goal.returns
+returns c =
+    let s = c.args.self.now in
+    let v = log_val (log_words s) in
+    let e = c.create.ensures in
+    record { lawful = e.lawful v; after = e.after v; exact = record { reply = e.reply v (log_view s).space; load = e.load v; end = refl; words = refl } }
