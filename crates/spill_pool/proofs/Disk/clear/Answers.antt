@@ -1,6 +1,6 @@
 use Rattle.std.proofs.Common.{refl, ◌∙◌, arith}
 use Rattle.spill_pool.proofs.Placing.{clears_none, clears_more, clears_all}
-use Rattle.spill_pool.proofs.clear.Goals as goal
+use Rattle.spill_pool.proofs.Disk.clear.Goals as goal
 
 pub loop-init : goal.loop-init
 loop-init g c = (clears_none _ _ _, refl, refl)
@@ -12,5 +12,5 @@ loop-preserved g c = (
   c.remove_oldest.ensures.size ∙ c.loop.invariant.2,
 )
 
-pub returns : goal.returns
-returns g c = record { law = clears_all c.loop.counter _ c.args.files.now _ _ _ _ (omega arith) c.loop.invariant.0; same = c.loop.invariant.1; size = c.loop.invariant.2 }
+pub returns-clause-law : goal.returns-clause-law
+returns-clause-law g c = clears_all c.loop.counter _ c.args.files.now _ _ _ _ (omega arith) c.loop.invariant.0
