@@ -1,13 +1,14 @@
 -- What each call of the bank does to the lists. Assumes nothing.
-use Rattle.std.proofs.Common.{◌≡◌, ℕ, suc, ◌+◌, ◌-◌, ◌<◌, Bool, true, false, ◌≢◌, List, [], ◌∷◌, ◌++◌, map, length, set, replicate, is_some, Some, None, Ok, Err, Option, Result, sym, refl, ap, ◌∙◌, arith, length-set}
+use Rattle.std.proofs.Common.{◌≡◌, ℕ, suc, ◌+◌, ◌-◌, ◌<◌, Bool, true, false, cond, ◌==◌, ◌≢◌, List, [], ◌∷◌, ◌++◌, map, length, set, replicate, is_some, Some, None, Ok, Err, Option, Result, sym, refl, ap, ◌∙◌, arith, length-set, eq-eqb, ne_eqb}
 use native.Mathlib.Nat.{suc_inj}
 use lib.ListN.{length-map}
 use Rattle.std.proofs.lemmas.List.{get_or-set_same, get_or-map, set-get_or, set-set, map-set, map_push, replicate_more}
-use Rattle.std.proofs.lemmas.Bool.{le-ltb, and_left, both_ways}
+use Rattle.std.proofs.lemmas.Bool.{le-ltb, and_left, both_ways, cond-true, cond-false}
+use Rattle.std.specs.Option.{unwrap_or}
 use Rattle.bank.specs.declared.Cell.{Cell}
 use Rattle.bank.specs.declared.Queue.{Queue}
 use Rattle.bank.specs.Lists.{oldest, rest, newest, older, push, list, put}
-use Rattle.bank.specs.Cells.{empty, last_or, linkable, filled, Relinked, Filled, Emptied, Swapped, Looked}
+use Rattle.bank.specs.Cells.{empty, first, last, last_or, linkable, filled, Relinked, Filled, Emptied, Swapped, Looked}
 use Rattle.bank.specs.Chains.{Chains}
 use Rattle.bank.specs.Banks.{Mem, mem, Is, Keeps, Adds, Takes, ReadsOldest, ReadsNewest, Rewrites, moved, Moves}
 use Rattle.bank.proofs.Frames.{first_node}
@@ -17,6 +18,18 @@ use Rattle.bank.proofs.Fills.{last_holds, fill_oldest, fill_newest}
 -- the first of no cells cannot move
 cannot : (n : ℕ) (p q : Queue) (t : ℕ) → p.len ≡ 0 → linkable n p q t ≡ false
 cannot n p q t e = and_left _ _ (le-ltb 0 p.len (omega arith))
+
+-- an end of a queue, if it has a cell
+pub none_at : (q : Queue) (i : ℕ) → q.len ≡ 0 → cond (q.len == 0) None (Some i) ≡ None
+none_at q i z = cond-true _ _ _ (eq-eqb _ _ z)
+
+pub some_at : (q : Queue) (i : ℕ) → 0 < q.len → cond (q.len == 0) None (Some i) ≡ Some i
+some_at q i h = cond-false _ _ _ (ne_eqb q.len 0 (λ z. omega arith))
+
+-- an end of a queue, or i where it has none
+pub unwrap_end : (b : Bool) (e i : ℕ) → unwrap_or (cond b None (Some e)) i ≡ cond b i e
+unwrap_end true e i = refl
+unwrap_end false e i = refl
 
 pub set_same : (qs : List Queue) (k : ℕ) (q : Queue) → Is qs k q → set qs k q ≡ qs
 set_same qs k q i = ap (λ (u : Queue). set qs k u) (sym i.1) ∙ set-get_or qs k empty
@@ -166,73 +179,67 @@ module _ {T : Type 0} where
           (d.0, rw (d.1, d.2, d.3) (rw e2 at n), refl)
 
   -- reading the two ends
-  pub reads_oldest : (f : Queue) (cs : List (Cell T)) (q : Queue) (r : Option T) → Looked cs q.len q.head r → ReadsOldest (mem f cs) q r
+  pub reads_oldest : (f : Queue) (cs : List (Cell T)) (q : Queue) (r : Option T) → Looked cs (first q) r → ReadsOldest (mem f cs) q r
   reads_oldest f cs q r l qs xss k w i = by (list xss k) refl
     where
       by : (xs : List T) → list xss k ≡ xs → r ≡ oldest xs
-      by [] e = l.none (len_is (mem f cs) qs xss w k q i [] e)
+      by [] e = l.none (none_at q q.head (len_is (mem f cs) qs xss w k q i [] e))
       by (y ∷ ys) e =
           let h = holds_at cs _ _ (opened (mem f cs) qs xss w) (suc k) q (chain_is (mem f cs) qs xss w k q i) (map Some (y ∷ ys)) (list_is (mem f cs) qs xss w k q i (y ∷ ys) e) in
           let n = first_node _ _ cs (suc k) 0 q.head (Some y) (map Some ys) q.tail h.1 in
-          l.some (let u = h.0 in omega arith) n.within ∙ n.holds
+          l.some q.head (some_at q q.head (let u = h.0 in omega arith)) n.within ∙ n.holds
 
   -- a list by its newest
   by_newest : (x : T) (xs : List T) → (y : T) × ((newest (x ∷ xs) ≡ Some y) × (x ∷ xs ≡ push (older (x ∷ xs)) y))
   by_newest x [] = (x, (refl, refl))
   by_newest x (z ∷ zs) = let r = by_newest z zs in (r.0, (r.1.0, ap (λ (u : List T). x ∷ u) r.1.1))
 
-  pub reads_newest : (f : Queue) (cs : List (Cell T)) (q : Queue) (r : Option T) → Looked cs q.len q.tail r → ReadsNewest (mem f cs) q r
+  pub reads_newest : (f : Queue) (cs : List (Cell T)) (q : Queue) (r : Option T) → Looked cs (last q) r → ReadsNewest (mem f cs) q r
   reads_newest f cs q r l qs xss k w i = by (list xss k) refl
     where
       by : (xs : List T) → list xss k ≡ xs → r ≡ newest xs
-      by [] e = l.none (len_is (mem f cs) qs xss w k q i [] e)
+      by [] e = l.none (none_at q q.tail (len_is (mem f cs) qs xss w k q i [] e))
       by (y ∷ ys) e =
           let b = by_newest y ys in
           let eb : map Some (y ∷ ys) ≡ map Some (older (y ∷ ys)) ++ Some b.0 ∷ [] = ap (map Some) b.1.1 ∙ map_push Some (older (y ∷ ys)) b.0 in
           let h = holds_at cs _ _ (opened (mem f cs) qs xss w) (suc k) q (chain_is (mem f cs) qs xss w k q i) _ (list_is (mem f cs) qs xss w k q i (y ∷ ys) e ∙ eb) in
           let n = last_holds _ _ cs (suc k) 0 q.head (Some b.0) (map Some (older (y ∷ ys))) q.tail h.1 in
           let ln = len_is (mem f cs) qs xss w k q i (y ∷ ys) e in
-          l.some (omega arith) n.1 ∙ n.2 ∙ sym b.1.0
+          l.some q.tail (some_at q q.tail (omega arith)) n.1 ∙ n.2 ∙ sym b.1.0
 
   none_long : (x : T) (xs : List T) → newest (x ∷ xs) ≡ None → ⊥
   none_long x xs e = let b = by_newest x xs in let u = b.1.0 in let z : ◌≡◌ {A = ℕ} 0 1 = cc in omega arith
 
   module _ (f : Queue) (cs : List (Cell T)) (q : Queue) (x : T) where
-    -- an empty queue has nothing to rewrite
-    pub rewrites_none : (which : List T → Option T) (after : List T → List T) → which [] ≡ None → q.len ≡ 0 → Rewrites which after (mem f cs) q x (mem f cs) (Err x)
-    rewrites_none which after en z qs xss k w i =
-        let ln = len_is (mem f cs) qs xss w k q i (list xss k) refl in
-        let e = nothing (list xss k) (omega arith) in
-        (λ y u. let v : which (list xss k) ≡ None = ap which e ∙ en in let c : ◌≡◌ {A = ℕ} 0 1 = cc in absurd (omega arith), λ _. (refl, refl))
-      where
-        nothing : (xs : List T) → length xs ≡ 0 → xs ≡ []
-        nothing [] h = refl
-        nothing (y ∷ ys) h = absurd (omega arith)
+    module _ (ds : List (Cell T)) (r : Result T T) where
+      -- an empty queue has nothing to rewrite
+      nothing : (r ≡ Err x) × (ds ≡ cs) → (r ≡ Err x) × (mem f ds ≡ mem f cs)
+      nothing (a, b) = (a, ap (mem f) b)
 
-    module _ (ds : List (Cell T)) (r : Result T T) (some : q.len ≡ 0 → ⊥) where
-      pub rewrites_oldest : Swapped cs q.head x ds r → Rewrites oldest (λ xs. x ∷ rest xs) (mem f cs) q x (mem f ds) r
+      pub rewrites_oldest : Swapped cs (first q) x ds r → Rewrites oldest (λ xs. x ∷ rest xs) (mem f cs) q x (mem f ds) r
       unfolding Keeps
       rewrites_oldest s qs xss k w i = by (list xss k) refl
         where
           by : (xs : List T) → list xss k ≡ xs → ((y : T) → oldest xs ≡ Some y → (r ≡ Ok y) × Keeps (mem f ds) qs (put xss k (x ∷ rest xs)) × (f.len ≡ f.len)) × (oldest xs ≡ None → (r ≡ Err x) × (mem f ds ≡ mem f cs))
-          by [] e = absurd (some (len_is (mem f cs) qs xss w k q i [] e))
+          by [] e = (λ y u. let c : ◌≡◌ {A = ℕ} 0 1 = cc in absurd (omega arith), λ _. nothing (s.refused (none_at q q.head (len_is (mem f cs) qs xss w k q i [] e))))
           by (z ∷ zs) e = (
             λ y u.
                 let n = fill_oldest cs (f ∷ qs) (Free (mem f cs) ∷ map (map Some) xss) (opened (mem f cs) qs xss w) (suc k) q (chain_is (mem f cs) qs xss w k q i) (Some x) (Some z) (map Some zs) (list_is (mem f cs) qs xss w k q i (z ∷ zs) e) in
                 let ez : z ≡ y = cc in
-                let d = s.did n.0 y (n.1 ∙ ap Some ez) in
+                let ln = len_is (mem f cs) qs xss w k q i (z ∷ zs) e in
+                let d = s.did q.head (some_at q q.head (omega arith)) n.0 y (n.1 ∙ ap Some ez) in
                 let e2 : set (map (map Some) xss) k (Some x ∷ map Some zs) ≡ map (map Some) (put xss k (x ∷ zs)) = sym (map-set (map Some) xss k (x ∷ zs)) in
                 let c2 : Chains (filled cs q.head (Some x)) (f ∷ qs) (Free (mem f cs) ∷ set (map (map Some) xss) k (Some x ∷ map Some zs)) = n.2 in
                 (d.0, rw d.1 (rw e2 at c2), refl),
             λ u. let c : ◌≡◌ {A = ℕ} 0 1 = cc in absurd (omega arith),
           )
 
-      pub rewrites_newest : Swapped cs q.tail x ds r → Rewrites newest (λ xs. push (older xs) x) (mem f cs) q x (mem f ds) r
+      pub rewrites_newest : Swapped cs (last q) x ds r → Rewrites newest (λ xs. push (older xs) x) (mem f cs) q x (mem f ds) r
       unfolding Keeps
       rewrites_newest s qs xss k w i = by (list xss k) refl
         where
           by : (xs : List T) → list xss k ≡ xs → ((y : T) → newest xs ≡ Some y → (r ≡ Ok y) × Keeps (mem f ds) qs (put xss k (push (older xs) x)) × (f.len ≡ f.len)) × (newest xs ≡ None → (r ≡ Err x) × (mem f ds ≡ mem f cs))
-          by [] e = absurd (some (len_is (mem f cs) qs xss w k q i [] e))
+          by [] e = (λ y u. let c : ◌≡◌ {A = ℕ} 0 1 = cc in absurd (omega arith), λ _. nothing (s.refused (none_at q q.tail (len_is (mem f cs) qs xss w k q i [] e))))
           by (z ∷ zs) e = (
             λ y u.
                 let b = by_newest z zs in
@@ -240,7 +247,8 @@ module _ {T : Type 0} where
                 let ey : b.0 ≡ y = cc in
                 let eb : map Some (z ∷ zs) ≡ map Some (older (z ∷ zs)) ++ Some b.0 ∷ [] = ap (map Some) b.1.1 ∙ map_push Some (older (z ∷ zs)) b.0 in
                 let n = fill_newest cs (f ∷ qs) (Free (mem f cs) ∷ map (map Some) xss) (opened (mem f cs) qs xss w) (suc k) q (chain_is (mem f cs) qs xss w k q i) (Some x) (Some b.0) (map Some (older (z ∷ zs))) (list_is (mem f cs) qs xss w k q i (z ∷ zs) e ∙ eb) in
-                let d = s.did n.0 y (n.1 ∙ ap Some ey) in
+                let ln = len_is (mem f cs) qs xss w k q i (z ∷ zs) e in
+                let d = s.did q.tail (some_at q q.tail (omega arith)) n.0 y (n.1 ∙ ap Some ey) in
                 let e2 : set (map (map Some) xss) k (map Some (older (z ∷ zs)) ++ Some x ∷ []) ≡ map (map Some) (put xss k (push (older (z ∷ zs)) x)) =
                 rw (map-set, map_push) refl in
                 let c2 : Chains (filled cs q.tail (Some x)) (f ∷ qs) (Free (mem f cs) ∷ set (map (map Some) xss) k (map Some (older (z ∷ zs)) ++ Some x ∷ [])) = n.2 in

@@ -27,6 +27,10 @@ module _ {T : Type 0} where
   abbrev pub size : Mem T → ℕ
   size m = length m.cells
 
+  -- the same memory, of the same length
+  abbrev pub SameCells : Bank T → Bank T → Type 0
+  SameCells b b' = (b'.cells.ghost_name ≡ b.cells.ghost_name) × (size (view b') ≡ size (view b))
+
   -- how many of them are free
   abbrev pub freed : Mem T → ℕ
   freed m = m.free.len

@@ -7,6 +7,14 @@ use Rattle.bank.specs.declared.Queue.{Queue}
 abbrev pub empty : Queue
 empty = record { head = 0; tail = 0; len = 0 }
 
+-- the first cell of q, if it has one
+abbrev pub first : Queue → Option ℕ
+first q = cond (q.len == 0) None (Some q.head)
+
+-- the last cell of q, if it has one
+abbrev pub last : Queue → Option ℕ
+last q = cond (q.len == 0) None (Some q.tail)
+
 -- the last cell of q, or i where it has none
 abbrev pub last_or : Queue → ℕ → ℕ
 last_or q i = cond (q.len == 0) i q.tail
@@ -56,16 +64,17 @@ module _ {T : Type 0} where
   pub record Emptied (cs : List (Cell T)) (i : ℕ) (ds : List (Cell T)) (r : Option T) : Type 0 where
     pub did : i < length cs → (r ≡ (at cs i).item) × (ds ≡ filled cs i None)
 
-  -- x went into the cell i in the place of what was there, which came out
-  pub record Swapped (cs : List (Cell T)) (i : ℕ) (x : T) (ds : List (Cell T)) (r : Result T T) : Type 0 where
-    pub did : i < length cs → (y : T) → (at cs i).item ≡ Some y → (r ≡ Ok y) × (ds ≡ filled cs i (Some x))
+  -- x went into the cell i in the place of what was there, which came out; where there is no cell, x comes back
+  pub record Swapped (cs : List (Cell T)) (i : Option ℕ) (x : T) (ds : List (Cell T)) (r : Result T T) : Type 0 where
+    pub did : (j : ℕ) → i ≡ Some j → j < length cs → (y : T) → (at cs j).item ≡ Some y → (r ≡ Ok y) × (ds ≡ filled cs j (Some x))
+    pub refused : i ≡ None → (r ≡ Err x) × (ds ≡ cs)
 
   -- whatever the cells hold: x lies in the cell i, or it came back
   abbrev pub Safe : {U : Type 0} → List (Cell T) → ℕ → T → Result U T → Type 0
   Safe ds i x (Ok _) = (i < length ds) × ((at ds i).item ≡ Some x)
   Safe ds i x (Err y) = y ≡ x
 
-  -- what the cell i holds, if the chain has a cell
-  pub record Looked (cs : List (Cell T)) (n i : ℕ) (r : Option T) : Type 0 where
-    pub some : 0 < n → i < length cs → r ≡ (at cs i).item
-    pub none : n ≡ 0 → r ≡ None
+  -- what the cell i holds, if there is one
+  pub record Looked (cs : List (Cell T)) (i : Option ℕ) (r : Option T) : Type 0 where
+    pub some : (j : ℕ) → i ≡ Some j → j < length cs → r ≡ (at cs j).item
+    pub none : i ≡ None → r ≡ None

@@ -9,15 +9,18 @@
 // Every cell is in one chain, a queue or the free cells, and each call moves cells between chains: nothing is allocated
 // or copied, and what is freed serves again. Each call but the making and `take_out` takes the same time however long
 // queues and memory are; no call but the making walks the memory.
+//
+// Only `memory` allocates: it is for callers who have a heap, and no other function calls it.
 #![tactic(auto)]
 
-ghost use Rattle.std.specs.Prelude.{◌≡◌, Bool, ◌∷◌, length, None};
-ghost use Rattle.bank.specs.Banks.{view, mem, size, Makes, Counts, Measures, Adds, Takes, ReadsOldest, ReadsNewest, Rewrites, Moves, TakesOut};
-ghost use Rattle.bank.specs.Cells.{cell, empty, last_or, first_or, linkable, Relinked, Filled, Emptied, Swapped, Safe, Looked};
+ghost use Rattle.std.specs.Prelude.{◌≡◌, Bool, ◌∷◌, IfOk, MatchOption, length, replicate, None};
+ghost use Rattle.bank.specs.Banks.{view, mem, size, SameCells, Makes, Counts, Measures, Adds, Takes, ReadsOldest, ReadsNewest, Rewrites, Moves, TakesOut};
+ghost use Rattle.bank.specs.Cells.{cell, empty, first, last, linkable, Relinked, Filled, Emptied, Swapped, Safe, Looked};
 ghost use Rattle.bank.specs.Lists.{oldest as oldest_of, newest as newest_of, rest, older, push};
-ghost use Rattle.bank.specs.Turning.{Turns, Sifts};
+ghost use Rattle.bank.specs.Turning.{Turns};
 ghost use Rattle.std.specs.Option.{option_map};
 
+use std::alloc::{AllocError, Global};
 use std::mem;
 
 // One cell of the memory: what it holds, and the cell behind it in its chain.
@@ -39,8 +42,19 @@ impl<T> Cell<T> {
     }
 }
 
+// `n` cells to make a memory of.
+pub fn memory<T: Drop>(heap: Global, n: usize) -> Result<Vec<Cell<T>>, AllocError>
+    ensures { IfOk result (λ v. v.items ≡ replicate n (cell 0 None)) }
+{
+    let mut cells = Vec::new(heap);
+    for _ in 0..n {
+        cells.push(Cell::new())?;
+    }
+    Ok(cells)
+}
+
 // A chain of cells: its first, its last, and how many.
-#[derive(Clone, Copy)]
+#[derive(Clone, Copy, PartialEq, Eq, Debug)]
 pub struct Queue {
     head: usize,
     tail: usize,
@@ -65,28 +79,28 @@ impl Queue {
     {
         self.len
     }
+
+    // Its first cell, if it has one.
+    fn first(self) -> Option<usize>
+        ensures { result ≡ first self }
+    {
+        (self.len > 0).then_some(self.head)
+    }
+
+    // Its last cell, if it has one.
+    fn last(self) -> Option<usize>
+        ensures { result ≡ last self }
+    {
+        (self.len > 0).then_some(self.tail)
+    }
 }
 
-// A test of elements.
+// A test of elements. A trait and not a closure, whose call would need a `requires`: no public function has one.
 pub trait Test<T> {
     ghost passes: { Self → T → Bool };
 
     fn test(&self, x: &T) -> bool
         ensures { result ≡ passes self.now x.now };
-}
-
-// The last cell of `q`, or `at` where it has none.
-fn last_or(q: Queue, at: usize) -> usize
-    ensures { result ≡ last_or q at }
-{
-    if q.len == 0 { at } else { q.tail }
-}
-
-// The first cell of `q`, or `at` where it has none.
-fn first_or(q: Queue, at: usize) -> usize
-    ensures { result ≡ first_or q at }
-{
-    if q.len == 0 { at } else { q.head }
 }
 
 // Among `n` cells, can the first cell of `from` go behind the cell `last` of `to`?
@@ -101,20 +115,15 @@ fn relink<T>(cells: &mut [Cell<T>], from: &mut Queue, to: &mut Queue) -> bool
     ensures { Relinked cells.old from.old to.old cells.new from.new to.new result }
 {
     let head = from.head;
-    let last = last_or(*to, head);
+    let last = to.last().unwrap_or(head);
     if !can_link(cells.len(), *from, *to, last) {
         return false;
     }
-    let first = first_or(*to, head);
-    let next = cells[head].next;
+    from.head = cells[head].next;
+    from.len -= 1;
     cells[last].next = head;
-    *from = Queue {
-        head: next,
-        tail: from.tail,
-        len: from.len - 1,
-    };
     *to = Queue {
-        head: first,
+        head: to.first().unwrap_or(head),
         tail: head,
         len: to.len + 1,
     };
@@ -126,13 +135,11 @@ fn fill<T>(cells: &mut [Cell<T>], i: usize, x: T) -> Result<(), T>
     ensures law { Filled cells.old i x cells.new result }
     ensures safe { Safe cells.new i x result }
 {
-    if i >= cells.len() {
+    // Indexed, here and below: a slice's `get_mut` tells a proof nothing of the slice after the write.
+    if i >= cells.len() || cells[i].item.is_some() {
         return Err(x);
     }
-    if cells[i].item.is_some() {
-        return Err(x);
-    }
-    match mem::replace(&mut cells[i].item, Some(x)) {
+    match cells[i].item.replace(x) {
         None => Ok(()),
         Some(y) => Err(y),
     }
@@ -142,71 +149,33 @@ fn fill<T>(cells: &mut [Cell<T>], i: usize, x: T) -> Result<(), T>
 fn empty_out<T>(cells: &mut [Cell<T>], i: usize) -> Option<T>
     ensures { Emptied cells.old i cells.new result }
 {
-    if i >= cells.len() {
-        return None;
+    if i < cells.len() {
+        cells[i].item.take()
+    } else {
+        None
     }
-    mem::replace(&mut cells[i].item, None)
 }
 
-// Puts `x` into the cell `i` in the place of what it holds, and gives that; hands `x` back where it holds nothing.
-fn swap<T>(cells: &mut [Cell<T>], i: usize, x: T) -> Result<T, T>
+// Puts `x` into the cell `i`, if there is one, in the place of what it holds, and gives that; hands `x` back where it
+// holds nothing.
+fn swap<T>(cells: &mut [Cell<T>], i: Option<usize>, x: T) -> Result<T, T>
     ensures law { Swapped cells.old i x cells.new result }
-    ensures safe { Safe cells.new i x result }
+    ensures safe { MatchOption i (result ≡ Err x) (λ j. Safe cells.new j x result) }
 {
-    if i >= cells.len() {
-        return Err(x);
+    if let Some(i) = i
+        && i < cells.len()
+        && let Some(y) = &mut cells[i].item
+    {
+        return Ok(mem::replace(y, x));
     }
-    match &mut cells[i].item {
-        None => Err(x),
-        Some(y) => Ok(mem::replace(y, x)),
-    }
+    Err(x)
 }
 
-// Adds `x` at the back of `q`.
-fn add<T>(cells: &mut [Cell<T>], free: &mut Queue, q: &mut Queue, x: T) -> Result<(), T>
-    ensures law { Adds (mem free.old cells.old) q.old x (mem free.new cells.new) q.new result }
-    ensures safe { Safe cells.new q.new.tail x result }
+// What the cell `i` holds, if there is one.
+fn look<T>(cells: &[Cell<T>], i: Option<usize>) -> Option<&T>
+    ensures { Looked cells.now i (option_map (λ x. x.now) result) }
 {
-    if !relink(cells, free, q) {
-        return Err(x);
-    }
-    fill(cells, q.tail, x)
-}
-
-// Takes the oldest element of `q`.
-fn take<T>(cells: &mut [Cell<T>], free: &mut Queue, q: &mut Queue) -> Option<T>
-    ensures { Takes (mem free.old cells.old) q.old (mem free.new cells.new) q.new result }
-{
-    if !relink(cells, q, free) {
-        return None;
-    }
-    empty_out(cells, free.tail)
-}
-
-// What the cell `i` holds, if the chain has a cell.
-fn look<T>(cells: &[Cell<T>], len: usize, i: usize) -> Option<&T>
-    ensures { Looked cells.now len i (option_map (λ x. x.now) result) }
-{
-    if len == 0 || i >= cells.len() {
-        return None;
-    }
-    cells[i].item.as_ref()
-}
-
-// The oldest element that passes is moved to the back of `out`, and one that does not to the back of its own queue.
-fn turn<T, P: Test<T>>(cells: &mut [Cell<T>], q: &mut Queue, out: &mut Queue, p: &P)
-    ensures { Turns (P.Test.passes p.now) cells.old q.old out.old cells.new q.new out.new }
-{
-    let Some(x) = look(cells, q.len, q.head) else {
-        return;
-    };
-    if p.test(x) {
-        relink(cells, q, out);
-        return;
-    }
-    let mut aside = Queue::new();
-    relink(cells, q, &mut aside);
-    relink(cells, &mut aside, q);
+    cells.get(i?)?.item.as_ref()
 }
 
 // Frees every cell: each points to the next.
@@ -214,8 +183,8 @@ fn clear<T: Drop>(cells: &mut [Cell<T>]) -> Queue
     ensures { Makes (length cells.old) (mem result cells.new) }
 {
     let n = cells.len();
-    for i in 0..n {
-        cells[i] = Cell {
+    for (i, cell) in cells.iter_mut().enumerate() {
+        *cell = Cell {
             next: i + 1,
             item: None,
         };
@@ -224,16 +193,6 @@ fn clear<T: Drop>(cells: &mut [Cell<T>]) -> Queue
         head: 0,
         tail: n.saturating_sub(1),
         len: n,
-    }
-}
-
-// One turn for each element.
-fn sift<T, P: Test<T>>(cells: &mut [Cell<T>], q: &mut Queue, out: &mut Queue, p: &P)
-    ensures { Sifts (P.Test.passes p.now) q.old.len cells.old q.old out.old cells.new q.new out.new }
-{
-    let n = q.len;
-    for _ in 0..n {
-        turn(cells, q, out, p);
     }
 }
 
@@ -280,84 +239,91 @@ impl<'a, T> Bank<'a, T> {
     pub fn add(&mut self, q: &mut Queue, x: T) -> Result<(), T>
         ensures law { Adds (view self.old) q.old x (view self.new) q.new result }
         ensures safe { Safe self.new.cells.now q.new.tail x result }
-        ensures same { self.new.cells.ghost_name ≡ self.old.cells.ghost_name }
-        ensures size { size (view self.new) ≡ size (view self.old) }
+        ensures same { SameCells self.old self.new }
     {
-        let mut free = self.free;
-        let r = add(self.cells, &mut free, q, x);
-        self.free = free;
-        r
+        if !relink(self.cells, &mut self.free, q) {
+            return Err(x);
+        }
+        fill(self.cells, q.tail, x)
     }
 
     // Takes the oldest element of `q`, or nothing where it is empty.
     pub fn take(&mut self, q: &mut Queue) -> Option<T>
         ensures law { Takes (view self.old) q.old (view self.new) q.new result }
-        ensures same { self.new.cells.ghost_name ≡ self.old.cells.ghost_name }
-        ensures size { size (view self.new) ≡ size (view self.old) }
+        ensures same { SameCells self.old self.new }
     {
-        let mut free = self.free;
-        let r = take(self.cells, &mut free, q);
-        self.free = free;
-        r
+        if !relink(self.cells, q, &mut self.free) {
+            return None;
+        }
+        empty_out(self.cells, self.free.tail)
     }
 
     // The oldest element of `q`.
     pub fn oldest(&self, q: &Queue) -> Option<&T>
         ensures { ReadsOldest (view self.now) q.now (option_map (λ x. x.now) result) }
     {
-        look(self.cells, q.len, q.head)
+        look(self.cells, q.first())
     }
 
     // The newest element of `q`.
     pub fn newest(&self, q: &Queue) -> Option<&T>
         ensures { ReadsNewest (view self.now) q.now (option_map (λ x. x.now) result) }
     {
-        look(self.cells, q.len, q.tail)
+        look(self.cells, q.last())
     }
 
     // Puts `x` in the place of the oldest element of `q` and gives that, or hands `x` back where `q` is empty.
     pub fn rewrite_oldest(&mut self, q: &Queue, x: T) -> Result<T, T>
         ensures law { Rewrites oldest_of (λ xs. x ∷ rest xs) (view self.old) q.now x (view self.new) result }
         ensures safe { Safe self.new.cells.now q.now.head x result }
-        ensures same { self.new.cells.ghost_name ≡ self.old.cells.ghost_name }
-        ensures size { size (view self.new) ≡ size (view self.old) }
+        ensures same { SameCells self.old self.new }
     {
-        if q.len == 0 {
-            return Err(x);
-        }
-        swap(self.cells, q.head, x)
+        swap(self.cells, q.first(), x)
     }
 
     // Puts `x` in the place of the newest element of `q` and gives that, or hands `x` back where `q` is empty.
     pub fn rewrite_newest(&mut self, q: &Queue, x: T) -> Result<T, T>
         ensures law { Rewrites newest_of (λ xs. push (older xs) x) (view self.old) q.now x (view self.new) result }
         ensures safe { Safe self.new.cells.now q.now.tail x result }
-        ensures same { self.new.cells.ghost_name ≡ self.old.cells.ghost_name }
-        ensures size { size (view self.new) ≡ size (view self.old) }
+        ensures same { SameCells self.old self.new }
     {
-        if q.len == 0 {
-            return Err(x);
-        }
-        swap(self.cells, q.tail, x)
+        swap(self.cells, q.last(), x)
     }
 
     // Moves the oldest element of `from` to the back of `to`, another queue; false where there is none.
     pub fn pass(&mut self, from: &mut Queue, to: &mut Queue) -> bool
         ensures law { Moves (view self.old) from.old to.old (view self.new) from.new to.new result }
-        ensures same { self.new.cells.ghost_name ≡ self.old.cells.ghost_name }
-        ensures size { size (view self.new) ≡ size (view self.old) }
+        ensures same { SameCells self.old self.new }
     {
         relink(self.cells, from, to)
+    }
+
+    // The oldest element of `q` goes to the back of `out` if it passes, and else to the back of its own queue.
+    fn turn<P: Test<T>>(&mut self, q: &mut Queue, out: &mut Queue, p: &P)
+        ensures law { Turns (P.Test.passes p.now) (view self.old) q.old out.old (view self.new) q.new out.new }
+        ensures same { SameCells self.old self.new }
+    {
+        let Some(x) = self.oldest(q) else {
+            return;
+        };
+        if p.test(x) {
+            self.pass(q, out);
+            return;
+        }
+        let mut aside = Queue::new();
+        self.pass(q, &mut aside);
+        self.pass(&mut aside, q);
     }
 
     // Takes out the elements of `q` that pass: they stand in order in the queue that comes back, and the others keep their order.
     pub fn take_out<P: Test<T>>(&mut self, q: &mut Queue, p: &P) -> Queue
         ensures law { TakesOut (P.Test.passes p.now) (view self.old) q.old (view self.new) q.new result }
-        ensures same { self.new.cells.ghost_name ≡ self.old.cells.ghost_name }
-        ensures size { size (view self.new) ≡ size (view self.old) }
+        ensures same { SameCells self.old self.new }
     {
         let mut out = Queue::new();
-        sift(self.cells, q, &mut out, p);
+        for _ in 0..q.len {
+            self.turn(q, &mut out, p);
+        }
         out
     }
 }

@@ -204,3 +204,17 @@ fn a_memory_without_cells(rt: HostRuntime) {
     assert_eq!(rt; bank.add(&mut q, 10u32), Err(10));
     assert_eq!(rt; bank.take(&mut q), None);
 }
+
+#[test]
+fn a_memory_is_made(rt: HostRuntime) -> Result<(), Fail> {
+    let mut cells = memory(rt.alloc(), 2)?;
+    assert_eq!(rt; cells.len(), 2);
+    let mut bank = Bank::new(cells.as_mut_slice());
+    let mut q = Queue::new();
+    assert_eq!(rt; (bank.size(), bank.free()), (2, 2));
+    assert_eq!(rt; bank.add(&mut q, 10u32), Ok(()));
+    assert_eq!(rt; bank.add(&mut q, 11), Ok(()));
+    assert_eq!(rt; bank.add(&mut q, 12), Err(12));
+    assert_eq!(rt; bank.take(&mut q), Some(10));
+    Ok(())
+}

@@ -6,26 +6,28 @@
 ghost use Rattle.std.specs.Prelude.{◌≡◌};
 ghost use Rattle.refusal.specs.Numbers.{number_of};
 
+use std::fmt;
+
 #[derive(Clone, Copy, PartialEq, Eq, Debug)]
 pub enum Refusal {
-    // 1: a memory is shorter or longer than it may be, or than it was at opening, or the woken list is too short
-    Lengths,
-    // 2: a number in the call is out of its range
-    Range,
-    // 3: the side that is called is closed
-    Closed,
-    // 4: a message is being sent
-    Sending,
-    // 5: nothing is being sent
-    Idle,
-    // 6: the ending was begun
-    Ending,
-    // 7: no message cell is free
-    Cells,
-    // 8: a file is needed, and no file place is free
-    Files,
-    // 9: the caller would have to wait, and no waiting place is free
-    Places,
+    // a memory is shorter or longer than it may be, or than it was at opening, or the woken list is too short
+    Lengths = 1,
+    // a number in the call is out of its range
+    Range = 2,
+    // the side that is called is closed
+    Closed = 3,
+    // a message is being sent
+    Sending = 4,
+    // nothing is being sent
+    Idle = 5,
+    // the ending was begun
+    Ending = 6,
+    // no message cell is free
+    Cells = 7,
+    // a file is needed, and no file place is free
+    Files = 8,
+    // the caller would have to wait, and no waiting place is free
+    Places = 9,
 }
 
 impl Refusal {
@@ -33,23 +35,21 @@ impl Refusal {
     pub fn number(&self) -> u8
         ensures { result ≡ number_of self.now }
     {
-        match self {
-            Refusal::Lengths => 1,
-            Refusal::Range => 2,
-            Refusal::Closed => 3,
-            Refusal::Sending => 4,
-            Refusal::Idle => 5,
-            Refusal::Ending => 6,
-            Refusal::Cells => 7,
-            Refusal::Files => 8,
-            Refusal::Places => 9,
-        }
+        *self as u8
+    }
+}
+
+// As the programs print it.
+impl fmt::Display for Refusal {
+    fn fmt<W: fmt::Write>(&self, f: &mut fmt::Formatter<W>) -> fmt::Result {
+        write!(f, "refused {}", self.number())
     }
 }
 
 #[cfg(test)]
 mod tests {
     use super::*;
+    use std::test::Fail;
 
     #[test]
     fn numbers(rt: HostRuntime) {
@@ -62,5 +62,15 @@ mod tests {
         assert_eq!(rt; Refusal::Cells.number(), 7);
         assert_eq!(rt; Refusal::Files.number(), 8);
         assert_eq!(rt; Refusal::Places.number(), 9);
+    }
+
+    #[test]
+    fn display(rt: HostRuntime) -> Result<(), Fail> {
+        let alloc = rt.alloc();
+        let cells = format!(in alloc; "{}", Refusal::Cells)?;
+        assert_eq!(rt; cells.as_str(), "refused 7");
+        let first = format!(in alloc; "{}", Refusal::Lengths)?;
+        assert_eq!(rt; first.as_str(), "refused 1");
+        Ok(())
     }
 }

@@ -1,13 +1,6 @@
-use Rattle.std.proofs.Common.{◌≡◌, ◌+◌, ◌-◌, ◌<◌, length, None, arith}
-use Rattle.std.proofs.lemmas.List.Edits.{fill_by_more}
-use Rattle.bank.specs.Cells.{cell}
+use Rattle.std.proofs.Common.{◌≡◌, ◌-◌, length, arith}
 use Rattle.bank.proofs.Clears.{cleared}
 use Rattle.bank.proofs.clear.Goals as goal
-
-pub loop-i-preserved : goal.loop-i-preserved
-loop-i-preserved g c =
-    let lt : c.loop-i.i < length c.loop-i.cells = omega arith in
-    fill_by_more (λ i. cell (i + 1) None) c.loop-i.cells c.loop-i.i (cell 0 None) lt c.loop-i.invariant
 
 pub returns : goal.returns
 returns g c =

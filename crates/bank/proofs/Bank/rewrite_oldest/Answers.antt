@@ -1,10 +1,5 @@
-use Rattle.std.proofs.Common.{◌∷◌, refl, rules}
-use Rattle.bank.specs.Lists.{oldest, rest}
-use Rattle.bank.proofs.Steps.{rewrites_none, rewrites_oldest}
+use Rattle.bank.proofs.Steps.{rewrites_oldest}
 use Rattle.bank.proofs.Bank.rewrite_oldest.Goals as goal
 
-pub returns-then-q-eq0 : goal.returns-then-q-eq0
-returns-then-q-eq0 g c = record { law = rewrites_none c.args.self.now.free c.args.self.now.cells.now c.args.q.now c.args.x oldest (λ xs. c.args.x ∷ rest xs) refl c.if-q-eq0.true; safe = refl; same = search rules; size = search rules }
-
-pub returns : goal.returns
-returns g c = record { law = rewrites_oldest c.args.self.now.free c.args.self.now.cells.now c.args.q.now c.args.x _ _ c.if-q-eq0.false c.swap.ensures.law; safe = c.swap.ensures.safe; same = search rules; size = search rules }
+pub returns-clause-law : goal.returns-clause-law
+returns-clause-law g c = rewrites_oldest c.args.self.now.free c.args.self.now.cells.now c.args.q.now c.args.x _ _ (rw c.first.ensures at c.swap.ensures.law)
