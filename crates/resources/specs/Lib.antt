@@ -5,3 +5,4 @@ pub mod Files
 pub mod Trips
 pub mod History
 pub mod Words
+pub mod Texts

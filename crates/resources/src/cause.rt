@@ -1,15 +1,18 @@
 // Why a store fails.
-ghost use Rattle.std.specs.Prelude.{◌≡◌};
+ghost use Rattle.std.specs.Prelude.{◌≡◌, Some};
 ghost use Rattle.resources.specs.Causes.{cause_number};
+ghost use Rattle.resources.specs.Texts.{cause_text};
+
+use std::fmt;
 
 #[derive(Clone, Copy, PartialEq, Eq, Debug)]
 pub enum Cause {
-    // 1: create or append found no space
-    NoSpace,
-    // 2: the call asks what the files do not allow
-    Misuse,
-    // 3: the device failed
-    Device,
+    // create or append found no space
+    NoSpace = 1,
+    // the call asks what the files do not allow
+    Misuse = 2,
+    // the device failed
+    Device = 3,
 }
 
 impl Cause {
@@ -17,10 +20,14 @@ impl Cause {
     pub fn number(&self) -> u8
         ensures { result ≡ cause_number self.now }
     {
-        match self {
-            Cause::NoSpace => 1,
-            Cause::Misuse => 2,
-            Cause::Device => 3,
-        }
+        *self as u8
+    }
+}
+
+impl fmt::Display for Cause {
+    ghost output = { λ c. Some (cause_text c) };
+
+    fn fmt<W: fmt::Write>(&self, f: &mut fmt::Formatter<W>) -> fmt::Result {
+        write!(f, "cause {}", self.number())
     }
 }

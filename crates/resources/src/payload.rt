@@ -20,7 +20,7 @@ pub trait Payload: Sized {
     // How many words a value has.
     const WORDS: usize;
 
-    ghost width: { ℕ };
+    ghost WORDS: { ℕ };
 
     ghost words: { Self → List ℕ };
 
@@ -30,10 +30,6 @@ pub trait Payload: Sized {
 
     ghost size_of: { Self → ℕ };
 
-    // The number of words, where a contract speaks of it.
-    fn width() -> usize
-        ensures { result ≡ width };
-
     fn rows(&self) -> u32
         ensures { result ≡ rows_of self.now };
 
@@ -42,15 +38,15 @@ pub trait Payload: Sized {
 
     // Writes the words to the front of the place, whose rest stays.
     fn write(&self, place: &mut [u64; 64])
-        ensures { place.new ≡ words self.now ++ drop width place.old };
+        ensures { place.new ≡ words self.now ++ drop WORDS place.old };
 
     // Reads the front of the place, whatever the words are.
     fn read(place: &[u64; 64]) -> Self
-        ensures { result ≡ reading (take width place.now) };
+        ensures { result ≡ reading (take WORDS place.now) };
 
-    ghost narrow: { (1 ≤ width) × (width ≤ 64) };
+    ghost narrow: { (1 ≤ WORDS) × (WORDS ≤ 64) };
 
-    ghost long: { (x : Self) → length (words x) ≡ width };
+    ghost long: { (x : Self) → length (words x) ≡ WORDS };
 
     ghost back: { (x : Self) → reading (words x) ≡ x };
 
@@ -60,7 +56,7 @@ pub trait Payload: Sized {
 impl Payload for Notice {
     const WORDS: usize = 3; // id, rows, size
 
-    ghost width = { 3 };
+    ghost WORDS = { 3 };
 
     ghost words = { notice_words };
 
@@ -77,10 +73,6 @@ impl Payload for Notice {
     ghost back = { notice_back };
 
     ghost small = { Prim.search rules };
-
-    fn width() -> usize {
-        Self::WORDS
-    }
 
     fn rows(&self) -> u32 {
         self.rows
@@ -108,7 +100,7 @@ impl Payload for Notice {
 impl Payload for Receipt {
     const WORDS: usize = 3; // kind, person, line
 
-    ghost width = { 3 };
+    ghost WORDS = { 3 };
 
     ghost words = { receipt_words };
 
@@ -125,10 +117,6 @@ impl Payload for Receipt {
     ghost back = { receipt_back };
 
     ghost small = { Prim.search rules };
-
-    fn width() -> usize {
-        Self::WORDS
-    }
 
     fn rows(&self) -> u32 {
         RECEIPT_ROWS

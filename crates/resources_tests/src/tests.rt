@@ -29,9 +29,7 @@ fn payloads(rt: HostRuntime) {
     assert!(rt;
         place[0] == 18446744073709551615 && place[1] == 4294967295 && place[2] == 7 && place[3] == 9
     );
-    assert!(rt;
-        <Notice as Payload>::width() == 3 && notice.rows() == 4294967295 && notice.size() == 7
-    );
+    assert!(rt; Notice::WORDS == 3 && notice.rows() == 4294967295 && notice.size() == 7);
     place[1] = 4294967296 + 5;
     assert!(rt;
         <Notice as Payload>::read(&place).rows == 5,
@@ -43,12 +41,7 @@ fn payloads(rt: HostRuntime) {
     assert!(rt; place[0] == 0 && place[1] == 1 && place[2] == 2);
     assert_eq!(rt; round_trip(&left, &mut place), left);
     assert!(rt; place[0] == 1 && place[1] == 3 && place[2] == 0);
-    assert!(rt;
-        seen.size() == 16
-            && left.size() == 8
-            && seen.rows() == 1
-            && <Receipt as Payload>::width() == 3
-    );
+    assert!(rt; seen.size() == 16 && left.size() == 8 && seen.rows() == 1 && Receipt::WORDS == 3);
     place[0] = 77;
     assert_eq!(rt;
         <Receipt as Payload>::read(&place),
@@ -62,6 +55,31 @@ fn numbers(rt: HostRuntime) {
     assert!(rt;
         Cause::NoSpace.number() == 1 && Cause::Misuse.number() == 2 && Cause::Device.number() == 3
     );
+}
+
+#[test]
+fn texts(rt: HostRuntime) -> Result<(), Fail> {
+    let heap = rt.alloc();
+    let notice = Notice {
+        id: 101,
+        rows: 3,
+        size: 20,
+    };
+    assert_eq!(rt;
+        notice.to_string(heap)?.as_str(),
+        "notice 101 (rows 3, size 20)"
+    );
+    let seen = Receipt::Seen(Seen {
+        person: 7,
+        line: 101,
+    });
+    assert_eq!(rt; seen.to_string(heap)?.as_str(), "person 7 saw line 101");
+    let left = Receipt::Left(Left { person: 8 });
+    assert_eq!(rt; left.to_string(heap)?.as_str(), "person 8 left");
+    assert_eq!(rt; Cause::NoSpace.to_string(heap)?.as_str(), "cause 1");
+    assert_eq!(rt; Cause::Misuse.to_string(heap)?.as_str(), "cause 2");
+    assert_eq!(rt; Cause::Device.to_string(heap)?.as_str(), "cause 3");
+    Ok(())
 }
 
 #[test]

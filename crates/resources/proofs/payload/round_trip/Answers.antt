@@ -7,5 +7,5 @@ pub returns : goal.returns
 returns g c =
     let x = c.args.x.now in
     let p = g.P.Payload in
-    let front = ap (take p.width) c.write.ensures ∙ take_at (p.words x) _ p.width (g.met.P.Payload.long x) in
+    let front = ap (take p.WORDS) c.write.ensures ∙ take_at (p.words x) _ p.WORDS (g.met.P.Payload.long x) in
     c.read.ensures ∙ ap p.reading front ∙ g.met.P.Payload.back x
