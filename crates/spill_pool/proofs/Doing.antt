@@ -202,8 +202,8 @@ module _ {P : Type 0} (k : Kind P) (law : Lawful k) (x : P) (p : SpillPool P) (d
   push-history p' d' fs' r = chronicled k law lawful step (pushes x) (λ s n h m gs hs run f a l. pushing run f x a l) p d fs p' d' fs' r
 
 -- the words of a value, written to the front of a place
-pub front_words : (n w : ℕ) (ws old place : List ℕ) → place ≡ ws ++ drop w old → n ≡ w → length ws ≡ w → take (n - 0) place ≡ ws
-front_words n w ws old place e en el = ap (take (n - 0)) e ∙ take_at ws (drop w old) (n - 0) (omega arith)
+pub front_words : (n w : ℕ) (ws old place : List ℕ) → place ≡ ws ++ drop w old → n ≡ w → length ws ≡ w → take n place ≡ ws
+front_words n w ws old place e en el = ap (take n) e ∙ take_at ws (drop w old) n (omega arith)
 
 -- a pool just opened
 pub opens : {P : Type 0} (w : ℕ) (p : SpillPool P) (d : Mem FileRecord) → p.files ≡ empty → p.current ≡ None → p.setup.maximum ≤ 2 ^ 40 → (o : Others) (fs : Files) → Keeps d o.queues o.lists → Represents w p d fs o (opened p.sinks)

@@ -30,7 +30,7 @@ pub record Kind (P : Type 0) : Type 0 where
 
 -- of the type P with these ghost members of a payload
 abbrev pub kind_of : {P : Type 0} → Ghosts P → Kind P
-kind_of g = record { width = g.width; rows = g.rows_of; size = g.size_of; words = g.words; reading = g.reading }
+kind_of g = record { width = g.WORDS; rows = g.rows_of; size = g.size_of; words = g.words; reading = g.reading }
 
 -- the words of a value, 1 to 64 of them, read back as that value; sizes have 32 bits
 pub record Lawful {P : Type 0} (k : Kind P) : Type 0 where

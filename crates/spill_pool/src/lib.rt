@@ -17,7 +17,7 @@
 #![tactic(auto)]
 
 ghost use Rattle.std.specs.Prelude.{◌≡◌, ℕ, ◌^◌, ◌<◌, not, ◌&&◌, ◌||◌, length, MatchResult, if◌then◌else◌, nat_eq, nat_le, nat_lt};
-ghost use Rattle.bank.specs.Banks.{view, size as extent};
+ghost use Rattle.bank.specs.Banks.{view, size as extent, SameCells};
 ghost use Rattle.bank.specs.Lists.{oldest as oldest_of, newest as newest_of};
 ghost use Rattle.spill_pool.specs.Meaning.{is_spent, is_full, new_file, kind_of};
 ghost use Rattle.spill_pool.specs.Calls.{Appends, Finishes, Writes, Sweeps, Settles, FilesAway, Advances, RemovesOldest, Clears, PushesOpen, PushesNew, Opens, Finds, Pushes, Polls, Closes, Removes, Chronicles, Refuses, Unfit, Steady, record_of, kept_of, outcome};
@@ -28,7 +28,7 @@ use crate::fault::{Fault, StoreCall};
 use bank::{Bank, Queue};
 use refusal::Refusal;
 use resources::cause::Cause;
-use resources::payload::Payload;
+use resources::payload::{BATCH_WORDS, Payload};
 use resources::store::Store;
 use std::marker::PhantomData;
 
@@ -269,8 +269,7 @@ impl<S: Store> Disk<'_, S> {
     // Writes the record of a file that was open to its place, that of the newest, which says how much of it was read; a spent file goes.
     fn settle(&mut self, files: &mut Queue, file: FileRecord)
         ensures law { Settles file (view self.old.places) files.old (S.Store.files self.old.store) (view self.new.places) files.new (S.Store.files self.new.store) }
-        ensures same { self.new.places.cells.ghost_name ≡ self.old.places.cells.ghost_name }
-        ensures size { extent (view self.new.places) ≡ extent (view self.old.places) }
+        ensures same { SameCells self.old.places self.new.places }
     {
         let Some(newest) = self.places.newest(files) else {
             return;
@@ -289,8 +288,7 @@ impl<S: Store> Disk<'_, S> {
     // Adds the record of a file that was just created and written to; a spent one goes from the store.
     fn file_away(&mut self, files: &mut Queue, file: FileRecord)
         ensures law { FilesAway file (view self.old.places) files.old (S.Store.files self.old.store) (view self.new.places) files.new (S.Store.files self.new.store) }
-        ensures same { self.new.places.cells.ghost_name ≡ self.old.places.cells.ghost_name }
-        ensures size { extent (view self.new.places) ≡ extent (view self.old.places) }
+        ensures same { SameCells self.old.places self.new.places }
     {
         if sweep(&mut self.store, &file) {
             return;
@@ -301,8 +299,7 @@ impl<S: Store> Disk<'_, S> {
     // Writes the record of the oldest file, of which one more batch was read; a spent file goes.
     fn advance(&mut self, files: &mut Queue, file: FileRecord)
         ensures law { Advances file (view self.old.places) files.old (S.Store.files self.old.store) (view self.new.places) files.new (S.Store.files self.new.store) }
-        ensures same { self.new.places.cells.ghost_name ≡ self.old.places.cells.ghost_name }
-        ensures size { extent (view self.new.places) ≡ extent (view self.old.places) }
+        ensures same { SameCells self.old.places self.new.places }
     {
         if sweep(&mut self.store, &file) {
             let _ = self.places.take(files);
@@ -314,8 +311,7 @@ impl<S: Store> Disk<'_, S> {
     // Removes the oldest file from the list and the store.
     fn remove_oldest(&mut self, files: &mut Queue)
         ensures law { RemovesOldest (view self.old.places) files.old (S.Store.files self.old.store) (view self.new.places) files.new (S.Store.files self.new.store) }
-        ensures same { self.new.places.cells.ghost_name ≡ self.old.places.cells.ghost_name }
-        ensures size { extent (view self.new.places) ≡ extent (view self.old.places) }
+        ensures same { SameCells self.old.places self.new.places }
     {
         if let Some(file) = self.places.take(files) {
             self.store.remove(file.number);
@@ -325,8 +321,7 @@ impl<S: Store> Disk<'_, S> {
     // Removes all files.
     fn clear(&mut self, files: &mut Queue)
         ensures law { Clears (view self.old.places) files.old (S.Store.files self.old.store) (view self.new.places) files.new (S.Store.files self.new.store) }
-        ensures same { self.new.places.cells.ghost_name ≡ self.old.places.cells.ghost_name }
-        ensures size { extent (view self.new.places) ≡ extent (view self.old.places) }
+        ensures same { SameCells self.old.places self.new.places }
     {
         // a count and no `while let`: that a `take` makes a queue shorter is known in good order only
         for _ in 0..files.len() {
@@ -344,8 +339,7 @@ impl<S: Store> Disk<'_, S> {
         batch: &Parcel,
     ) -> Result<Option<Fault>, Fault>
         ensures law { PushesOpen setup batch.now.size batch.now.words.now (view self.old.places) files.old kept (S.Store.files self.old.store) (view self.new.places) files.new current.new (S.Store.files self.new.store) result }
-        ensures same { self.new.places.cells.ghost_name ≡ self.old.places.cells.ghost_name }
-        ensures size { extent (view self.new.places) ≡ extent (view self.old.places) }
+        ensures same { SameCells self.old.places self.new.places }
     {
         let mut file = kept.record();
         let written = file.write(&mut self.store, setup, batch);
@@ -363,8 +357,7 @@ impl<S: Store> Disk<'_, S> {
         batch: &Parcel,
     ) -> Result<Option<Fault>, Fault>
         ensures law { PushesNew setup batch.now.size batch.now.words.now (view self.old.places) files.old current.old (S.Store.files self.old.store) (view self.new.places) files.new current.new (S.Store.files self.new.store) result }
-        ensures same { self.new.places.cells.ghost_name ≡ self.old.places.cells.ghost_name }
-        ensures size { extent (view self.new.places) ≡ extent (view self.old.places) }
+        ensures same { SameCells self.old.places self.new.places }
     {
         let number = match self.store.create() {
             Ok(number) => number,
@@ -455,7 +448,7 @@ impl<P: Payload> SpillPool<P> {
         ensures history { Chronicles (pushing batch.now) (kind_of P.Payload) self.old (view disk.old.places) (S.Store.files disk.old.store) self.new (view disk.new.places) (S.Store.files disk.new.store) result }
         ensures refused { Refuses self.old (view disk.old.places) disk.old.store self.new (view disk.new.places) disk.new.store result }
         ensures unfit { Unfit self.old (view disk.old.places) result }
-        ensures same { disk.new.places.cells.ghost_name ≡ disk.old.places.cells.ghost_name }
+        ensures same { SameCells disk.old.places disk.new.places }
         ensures steady { Steady self.old (view disk.old.places) self.new (view disk.new.places) }
     {
         self.fit(disk)?;
@@ -465,9 +458,9 @@ impl<P: Payload> SpillPool<P> {
         if batch.rows() == 0 {
             return Ok(Push::Skipped);
         }
-        let mut place = [0; 64];
+        let mut place = [0; BATCH_WORDS];
         batch.write(&mut place);
-        let words = &place[0..P::width()];
+        let words = &place[..P::WORDS];
         let batch = Parcel {
             words,
             size: batch.size(),
@@ -489,7 +482,7 @@ impl<P: Payload> SpillPool<P> {
         ensures history { Chronicles polling (kind_of P.Payload) self.old (view disk.old.places) (S.Store.files disk.old.store) self.new (view disk.new.places) (S.Store.files disk.new.store) result }
         ensures refused { Refuses self.old (view disk.old.places) disk.old.store self.new (view disk.new.places) disk.new.store result }
         ensures unfit { Unfit self.old (view disk.old.places) result }
-        ensures same { disk.new.places.cells.ghost_name ≡ disk.old.places.cells.ghost_name }
+        ensures same { SameCells disk.old.places disk.new.places }
         ensures steady { Steady self.old (view disk.old.places) self.new (view disk.new.places) }
     {
         self.fit(disk)?;
@@ -500,7 +493,7 @@ impl<P: Payload> SpillPool<P> {
         if file.read >= file.written {
             return Ok(self.resting());
         }
-        let mut place = [0; 64];
+        let mut place = [0; BATCH_WORDS];
         if let Err(cause) = disk
             .store
             .read(file.number, index_of(file.read), &mut place)
@@ -520,7 +513,7 @@ impl<P: Payload> SpillPool<P> {
         ensures history { Chronicles closing (kind_of P.Payload) self.old (view disk.old.places) (S.Store.files disk.old.store) self.new (view disk.new.places) (S.Store.files disk.new.store) result }
         ensures refused { Refuses self.old (view disk.old.places) disk.old.store self.new (view disk.new.places) disk.new.store result }
         ensures unfit { Unfit self.old (view disk.old.places) result }
-        ensures same { disk.new.places.cells.ghost_name ≡ disk.old.places.cells.ghost_name }
+        ensures same { SameCells disk.old.places disk.new.places }
         ensures steady { Steady self.old (view disk.old.places) self.new (view disk.new.places) }
     {
         self.fit(disk)?;
@@ -549,7 +542,7 @@ impl<P: Payload> SpillPool<P> {
         ensures history { Chronicles removing (kind_of P.Payload) self.old (view disk.old.places) (S.Store.files disk.old.store) self.new (view disk.new.places) (S.Store.files disk.new.store) result }
         ensures refused { Refuses self.old (view disk.old.places) disk.old.store self.new (view disk.new.places) disk.new.store result }
         ensures unfit { Unfit self.old (view disk.old.places) result }
-        ensures same { disk.new.places.cells.ghost_name ≡ disk.old.places.cells.ghost_name }
+        ensures same { SameCells disk.old.places disk.new.places }
         ensures steady { Steady self.old (view disk.old.places) self.new (view disk.new.places) }
     {
         self.fit(disk)?;

@@ -46,7 +46,7 @@ pub returns-in_default-clause-law : goal.returns-in_default-clause-law
 returns-in_default-clause-law g c =
     rw c.from.ensures (pushes_to_new (kind g) (lawful g) c.args.batch.now c.args.self.now (view c.args.disk.now.places) (g.S.Store.files c.args.disk.now.store) c.in_ok-fit.ensures c.if-self-eq0.false (λ e. c.if-rows-eq0.false (c.rows.ensures ∙ e))
     _ _ _ c.push_new-written.result refl refl c.size.result _ c.size.ensures
-    (front_words c.width.result g.P.Payload.width (g.P.Payload.words c.args.batch.now) _ c.write.new.place c.write.ensures c.width.ensures (g.met.P.Payload.long c.args.batch.now))
+    (front_words c.WORDS.result g.P.Payload.WORDS (g.P.Payload.words c.args.batch.now) _ c.write.new.place c.write.ensures c.WORDS.ensures (g.met.P.Payload.long c.args.batch.now))
     c.in_default.is (λ e. c.if-free-eq0.false (c.free.ensures.0 ∙ e)) c.push_new-written.ensures.law)
 
 pub returns-in_default-clause-history : goal.returns-in_default-clause-history
@@ -56,7 +56,7 @@ pub returns-clause-law : goal.returns-clause-law
 returns-clause-law g c =
     rw c.from-2.ensures (pushes_to_open (kind g) (lawful g) c.args.batch.now c.args.self.now (view c.args.disk.now.places) (g.S.Store.files c.args.disk.now.store) c.in_ok-fit.ensures c.if-self-eq0.false (λ e. c.if-rows-eq0.false (c.rows.ensures ∙ e))
     _ _ _ c.push_open-written.result refl refl c.size.result _ c.size.ensures
-    (front_words c.width.result g.P.Payload.width (g.P.Payload.words c.args.batch.now) _ c.write.new.place c.write.ensures c.width.ensures (g.met.P.Payload.long c.args.batch.now))
+    (front_words c.WORDS.result g.P.Payload.WORDS (g.P.Payload.words c.args.batch.now) _ c.write.new.place c.write.ensures c.WORDS.ensures (g.met.P.Payload.long c.args.batch.now))
     c.in-Some.kept c.in-Some.is c.push_open-written.ensures.law)
 
 pub returns-clause-history : goal.returns-clause-history
