@@ -118,7 +118,7 @@ shows_none c rs sh l = by (open_file rs) refl sh
     by None e s = e
     by (Some r) e s = absurd (let z : ◌≡◌ {A = ℕ} 0 1 = cc in omega arith)
 
-module _ {P : Type 0} (k : Kind P) (law : Lawful k) (x : P) (p : SpillPool P) (d : Mem FileRecord) (fs : Files) where
+module _ {P : Type 0} {k : Kind P} (law : Lawful k) (x : P) (p : SpillPool P) (d : Mem FileRecord) (fs : Files) where
   abbrev b : Batch
   b = batch_of k x
 

@@ -57,7 +57,7 @@ laid_front w (Some f) i place l a =
     let n : length ws ≡ w = All-get_or (λ v. length v ≡ w) f.batches i [] l a in
     ap (λ (u : Option (List ℕ)). take w (laid u place)) e ∙ take_at ws (drop (length ws) place) w n ∙ ap words_or (sym e)
 
-module _ {P : Type 0} (k : Kind P) (law : Lawful k) (p : SpillPool P) (d : Mem FileRecord) (fs : Files) where
+module _ {P : Type 0} {k : Kind P} (law : Lawful k) (p : SpillPool P) (d : Mem FileRecord) (fs : Files) where
   abbrev step : Setup → Facts → Pool → Files → Replies → Out (Result (PoolPoll P) Refusal)
   step s f m gs a = poll_step s k.reading f m gs a
 

@@ -23,7 +23,7 @@ use Rattle.spill_pool.proofs.Closing.{closed, cleared}
 use Rattle.spill_pool.proofs.Spilling.{shows_listed, alone}
 use Rattle.spill_pool.proofs.Doing.{unasked, close_unasked, does_by, stays_by, chronicled, shows_some, shows_none}
 
-module _ {P : Type 0} (k : Kind P) (law : Lawful k) (p : SpillPool P) (d : Mem FileRecord) (fs : Files) where
+module _ {P : Type 0} {k : Kind P} (law : Lawful k) (p : SpillPool P) (d : Mem FileRecord) (fs : Files) where
   closes_stay : (r : Result (Option Fault) Refusal) → ((o : Others) (m : Pool) → Represents k.width p d fs o m → close_step p.setup (facts_of p d) m fs unasked ≡ out r m fs) → Closes k p d fs p d fs r
   closes_stay r e o m rep = stays_by CloseLawful close_step k.width p d fs r o m rep unasked (close_unasked fs (open_file m.files)) (e o m rep)
 

@@ -4,11 +4,12 @@ use Rattle.refusal.specs.declared.Refusal.{Refusal}
 use Rattle.refusal.specs.declared.Refusal.TheVariants.{Lengths, Range}
 use Rattle.bank.specs.declared.Queue.{Queue}
 use Rattle.bank.specs.Lists.{push, older}
-use Rattle.bank.specs.Banks.{Mem, size, freed, Keeps}
+use Rattle.bank.specs.Banks.{Mem, view, size, SameCells, freed, Keeps}
 use Rattle.resources.specs.declared.cause.Cause.{Cause}
 use Rattle.resources.specs.Files.{Files, CreateLawful, AppendLawful, append_after, FinishLawful, finish_after, remove_after}
 use Rattle.spill_pool.specs.declared.fault.Fault.{Fault}
 use Rattle.spill_pool.specs.declared.fault.StoreCall.TheVariants.{Append}
+use Rattle.spill_pool.specs.declared.Disk.{Disk}
 use Rattle.spill_pool.specs.declared.FileRecord.{FileRecord}
 use Rattle.spill_pool.specs.declared.OpenFile.{OpenFile}
 use Rattle.spill_pool.specs.declared.Push.{Push}
@@ -207,19 +208,14 @@ module _ {P : Type 0} where
   abbrev pub Finds : (List FileRecord → Option FileRecord) → SpillPool P → Mem FileRecord → Option FileRecord → Type 0
   Finds which p d r = (w : ℕ) (fs : Files) (o : Others) (m : Pool) → Represents w p d fs o m → r ≡ which m.files
 
-  -- what no call changes
-  pub record Steady (p : SpillPool P) (d : Mem FileRecord) (p' : SpillPool P) (d' : Mem FileRecord) : Type 0 where
+  -- What holds of each call, whatever the memory holds: a refused one leaves all as it was, a memory of another length is refused, and none changes the
+  -- set-up or the memory's size.
+  pub record Orderly {A S : Type 0} (p : SpillPool P) (d : Disk S) (p' : SpillPool P) (d' : Disk S) (r : Result A Refusal) : Type 0 where
+    pub refused : is_ok r ≡ false → (p' ≡ p) × (view d'.places ≡ view d.places) × (d'.store ≡ d.store)
+    pub unfit : (facts_of p (view d.places)).fit ≡ false → r ≡ Err Lengths
     pub setup : p'.setup ≡ p.setup
     pub places : p'.places ≡ p.places
-    pub size : size d' ≡ size d
-
-  -- a refused call leaves all as it was, whatever the memory holds
-  abbrev pub Refuses : {A S : Type 0} → SpillPool P → Mem FileRecord → S → SpillPool P → Mem FileRecord → S → Result A Refusal → Type 0
-  Refuses p d s p' d' s' r = is_ok r ≡ false → (p' ≡ p) × (d' ≡ d) × (s' ≡ s)
-
-  -- a memory of another length is refused, whatever it holds
-  abbrev pub Unfit : {A : Type 0} → SpillPool P → Mem FileRecord → Result A Refusal → Type 0
-  Unfit p d r = (facts_of p d).fit ≡ false → r ≡ Err Lengths
+    pub same : SameCells d.places d'.places
 
   -- a pool is opened over the file places, or the smallest reason why not is given
   abbrev pub Opens : ℕ → Mem FileRecord → ℕ → ℕ → ℕ → Result (SpillPool P) Refusal → Type 0

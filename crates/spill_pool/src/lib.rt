@@ -20,7 +20,7 @@ ghost use Rattle.std.specs.Prelude.{◌≡◌, ℕ, ◌^◌, ◌<◌, not, ◌&&
 ghost use Rattle.bank.specs.Banks.{view, size as extent, SameCells};
 ghost use Rattle.bank.specs.Lists.{oldest as oldest_of, newest as newest_of};
 ghost use Rattle.spill_pool.specs.Meaning.{is_spent, is_full, new_file, kind_of};
-ghost use Rattle.spill_pool.specs.Calls.{Appends, Finishes, Writes, Sweeps, Settles, FilesAway, Advances, RemovesOldest, Clears, PushesOpen, PushesNew, Opens, Finds, Pushes, Polls, Closes, Removes, Chronicles, Refuses, Unfit, Steady, record_of, kept_of, outcome};
+ghost use Rattle.spill_pool.specs.Calls.{Appends, Finishes, Writes, Sweeps, Settles, FilesAway, Advances, RemovesOldest, Clears, PushesOpen, PushesNew, Opens, Finds, Pushes, Polls, Closes, Removes, Chronicles, Orderly, record_of, kept_of, outcome};
 ghost use Rattle.spill_pool.specs.Runs.{Runs};
 ghost use Rattle.spill_pool.specs.Histories.{pushes as pushing, polls as polling, closes as closing, removes as removing};
 
@@ -389,10 +389,10 @@ impl<P> SpillPool<P> {
         ensures { (w : ℕ) → Opens w (view disk.now.places) partition maximum sinks result }
     {
         let places = disk.places.size();
-        if places < 1 || places > MOST_PLACES {
+        if !(1..=MOST_PLACES).contains(&places) {
             return Err(Refusal::Lengths);
         }
-        if maximum > MOST_MAXIMUM || sinks < 1 || sinks > MOST_SINKS {
+        if maximum > MOST_MAXIMUM || !(1..=MOST_SINKS).contains(&sinks) {
             return Err(Refusal::Range);
         }
         Ok(SpillPool {
@@ -446,10 +446,7 @@ impl<P: Payload> SpillPool<P> {
     pub fn push<S: Store>(&mut self, disk: &mut Disk<S>, batch: &P) -> Result<Push, Refusal>
         ensures law { Pushes (kind_of P.Payload) batch.now self.old (view disk.old.places) (S.Store.files disk.old.store) self.new (view disk.new.places) (S.Store.files disk.new.store) result }
         ensures history { Chronicles (pushing batch.now) (kind_of P.Payload) self.old (view disk.old.places) (S.Store.files disk.old.store) self.new (view disk.new.places) (S.Store.files disk.new.store) result }
-        ensures refused { Refuses self.old (view disk.old.places) disk.old.store self.new (view disk.new.places) disk.new.store result }
-        ensures unfit { Unfit self.old (view disk.old.places) result }
-        ensures same { SameCells disk.old.places disk.new.places }
-        ensures steady { Steady self.old (view disk.old.places) self.new (view disk.new.places) }
+        ensures orderly { Orderly self.old disk.old self.new disk.new result }
     {
         self.fit(disk)?;
         if self.sinks == 0 {
@@ -480,10 +477,7 @@ impl<P: Payload> SpillPool<P> {
     pub fn poll<S: Store>(&mut self, disk: &mut Disk<S>) -> Result<PoolPoll<P>, Refusal>
         ensures law { Polls (kind_of P.Payload) self.old (view disk.old.places) (S.Store.files disk.old.store) self.new (view disk.new.places) (S.Store.files disk.new.store) result }
         ensures history { Chronicles polling (kind_of P.Payload) self.old (view disk.old.places) (S.Store.files disk.old.store) self.new (view disk.new.places) (S.Store.files disk.new.store) result }
-        ensures refused { Refuses self.old (view disk.old.places) disk.old.store self.new (view disk.new.places) disk.new.store result }
-        ensures unfit { Unfit self.old (view disk.old.places) result }
-        ensures same { SameCells disk.old.places disk.new.places }
-        ensures steady { Steady self.old (view disk.old.places) self.new (view disk.new.places) }
+        ensures orderly { Orderly self.old disk.old self.new disk.new result }
     {
         self.fit(disk)?;
         let Some(oldest) = disk.places.oldest(&self.files) else {
@@ -511,10 +505,7 @@ impl<P: Payload> SpillPool<P> {
     pub fn close_sink<S: Store>(&mut self, disk: &mut Disk<S>) -> Result<Option<Fault>, Refusal>
         ensures law { Closes (kind_of P.Payload) self.old (view disk.old.places) (S.Store.files disk.old.store) self.new (view disk.new.places) (S.Store.files disk.new.store) result }
         ensures history { Chronicles closing (kind_of P.Payload) self.old (view disk.old.places) (S.Store.files disk.old.store) self.new (view disk.new.places) (S.Store.files disk.new.store) result }
-        ensures refused { Refuses self.old (view disk.old.places) disk.old.store self.new (view disk.new.places) disk.new.store result }
-        ensures unfit { Unfit self.old (view disk.old.places) result }
-        ensures same { SameCells disk.old.places disk.new.places }
-        ensures steady { Steady self.old (view disk.old.places) self.new (view disk.new.places) }
+        ensures orderly { Orderly self.old disk.old self.new disk.new result }
     {
         self.fit(disk)?;
         if self.sinks == 0 {
@@ -540,10 +531,7 @@ impl<P: Payload> SpillPool<P> {
     pub fn remove_all<S: Store>(&mut self, disk: &mut Disk<S>) -> Result<(), Refusal>
         ensures law { Removes (kind_of P.Payload) self.old (view disk.old.places) (S.Store.files disk.old.store) self.new (view disk.new.places) (S.Store.files disk.new.store) result }
         ensures history { Chronicles removing (kind_of P.Payload) self.old (view disk.old.places) (S.Store.files disk.old.store) self.new (view disk.new.places) (S.Store.files disk.new.store) result }
-        ensures refused { Refuses self.old (view disk.old.places) disk.old.store self.new (view disk.new.places) disk.new.store result }
-        ensures unfit { Unfit self.old (view disk.old.places) result }
-        ensures same { SameCells disk.old.places disk.new.places }
-        ensures steady { Steady self.old (view disk.old.places) self.new (view disk.new.places) }
+        ensures orderly { Orderly self.old disk.old self.new disk.new result }
     {
         self.fit(disk)?;
         disk.clear(&mut self.files);
