@@ -1,7 +1,8 @@
 // A fault: what failed, where, and why.
-ghost use Rattle.std.specs.Prelude.{◌≡◌};
+ghost use Rattle.std.specs.Prelude.{◌≡◌, Some};
 ghost use Rattle.resources.specs.declared.cause.Cause.{Cause as StoreCause};
 ghost use Rattle.spill_pool.specs.Faults.{layer_number, call_number, store_number, store_fault, feed_fault};
+ghost use Rattle.spill_pool.specs.Texts.{call_text, layer_text, fault_text};
 
 use resources::cause::Cause;
 use std::fmt;
@@ -97,6 +98,8 @@ impl Fault {
 }
 
 impl fmt::Display for StoreCall {
+    ghost output = { λ call. Some (call_text call) };
+
     fn fmt<W: fmt::Write>(&self, f: &mut fmt::Formatter<W>) -> fmt::Result {
         match self {
             StoreCall::Create => write!(f, "create"),
@@ -108,6 +111,8 @@ impl fmt::Display for StoreCall {
 }
 
 impl fmt::Display for Layer {
+    ghost output = { λ layer. Some (layer_text layer) };
+
     fn fmt<W: fmt::Write>(&self, f: &mut fmt::Formatter<W>) -> fmt::Result {
         match self {
             Layer::Feed => write!(f, "the feed"),
@@ -117,6 +122,8 @@ impl fmt::Display for Layer {
 }
 
 impl fmt::Display for Fault {
+    ghost output = { λ fault. Some (fault_text fault) };
+
     fn fmt<W: fmt::Write>(&self, f: &mut fmt::Formatter<W>) -> fmt::Result {
         write!(f, "{} fails, cause {}", self.layer, self.cause)
     }

@@ -16,12 +16,13 @@
 // files are records in a bank that is handed in with the store, drops are closes, and wakers are left out.
 #![tactic(auto)]
 
-ghost use Rattle.std.specs.Prelude.{◌≡◌, ℕ, ◌^◌, ◌<◌, not, ◌&&◌, ◌||◌, length, MatchResult, if◌then◌else◌, nat_eq, nat_le, nat_lt};
+ghost use Rattle.std.specs.Prelude.{◌≡◌, ℕ, ◌^◌, ◌<◌, not, ◌&&◌, ◌||◌, length, MatchResult, Some, if◌then◌else◌, nat_eq, nat_le, nat_lt};
 ghost use Rattle.bank.specs.Banks.{view, size as extent, SameCells};
 ghost use Rattle.bank.specs.Lists.{oldest as oldest_of, newest as newest_of};
 ghost use Rattle.spill_pool.specs.Meaning.{is_spent, is_full, new_file, kind_of};
 ghost use Rattle.spill_pool.specs.Calls.{Appends, Finishes, Writes, Sweeps, Settles, FilesAway, Advances, RemovesOldest, Clears, PushesOpen, PushesNew, Opens, Finds, Pushes, Polls, Closes, Removes, Chronicles, Orderly, record_of, kept_of, outcome};
 ghost use Rattle.spill_pool.specs.Runs.{Runs};
+ghost use Rattle.spill_pool.specs.Texts.{push_text};
 ghost use Rattle.spill_pool.specs.Histories.{pushes as pushing, polls as polling, closes as closing, removes as removing};
 
 use crate::fault::{Fault, StoreCall};
@@ -30,6 +31,7 @@ use refusal::Refusal;
 use resources::cause::Cause;
 use resources::payload::{BATCH_WORDS, Payload};
 use resources::store::Store;
+use std::fmt;
 use std::marker::PhantomData;
 
 pub mod fault;
@@ -121,7 +123,20 @@ impl From<Result<Option<Fault>, Fault>> for Push {
     }
 }
 
-// What a poll answers.
+impl fmt::Display for Push {
+    ghost output = { λ push. Some (push_text push) };
+
+    fn fmt<W: fmt::Write>(&self, f: &mut fmt::Formatter<W>) -> fmt::Result {
+        match self {
+            Push::Skipped => write!(f, "skipped"),
+            Push::Kept(None) => write!(f, "kept"),
+            Push::Kept(Some(fault)) => write!(f, "kept, but {fault}"),
+            Push::Failed(fault) => write!(f, "not kept, {fault}"),
+        }
+    }
+}
+
+// What a poll answers. Four names say it, where `Poll<Option<Result<P, Fault>>>` nests them.
 #[derive(Drop)]
 pub enum PoolPoll<P> {
     // the next batch
@@ -204,10 +219,7 @@ impl FileRecord {
     fn kept(&self) -> Option<OpenFile>
         ensures { result ≡ kept_of self.now }
     {
-        if self.finished {
-            return None;
-        }
-        Some(OpenFile {
+        (!self.finished).then_some(OpenFile {
             number: self.number,
             written: self.written,
             sum: self.sum,
@@ -245,11 +257,9 @@ impl OpenFile {
         ensures { result ≡ record_of self }
     {
         FileRecord {
-            number: self.number,
             written: self.written,
-            read: 0,
             sum: self.sum,
-            finished: false,
+            ..FileRecord::new(self.number)
         }
     }
 }
