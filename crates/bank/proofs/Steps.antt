@@ -179,67 +179,67 @@ module _ {T : Type 0} where
           (d.0, rw (d.1, d.2, d.3) (rw e2 at n), refl)
 
   -- reading the two ends
-  pub reads_oldest : (f : Queue) (cs : List (Cell T)) (q : Queue) (r : Option T) → Looked cs (first q) r → ReadsOldest (mem f cs) q r
-  reads_oldest f cs q r l qs xss k w i = by (list xss k) refl
+  pub reads_oldest : (f : Queue) (cs : List (Cell T)) (q : Queue) (i : Option ℕ) (r : Option T) → Looked cs i r → i ≡ first q → ReadsOldest (mem f cs) q r
+  reads_oldest f cs q j r l ej qs xss k w i = by (list xss k) refl
     where
       by : (xs : List T) → list xss k ≡ xs → r ≡ oldest xs
-      by [] e = l.none (none_at q q.head (len_is (mem f cs) qs xss w k q i [] e))
+      by [] e = l.none (ej ∙ none_at q q.head (len_is (mem f cs) qs xss w k q i [] e))
       by (y ∷ ys) e =
           let h = holds_at cs _ _ (opened (mem f cs) qs xss w) (suc k) q (chain_is (mem f cs) qs xss w k q i) (map Some (y ∷ ys)) (list_is (mem f cs) qs xss w k q i (y ∷ ys) e) in
           let n = first_node _ _ cs (suc k) 0 q.head (Some y) (map Some ys) q.tail h.1 in
-          l.some q.head (some_at q q.head (let u = h.0 in omega arith)) n.within ∙ n.holds
+          l.some q.head (ej ∙ some_at q q.head (let u = h.0 in omega arith)) n.within ∙ n.holds
 
   -- a list by its newest
   by_newest : (x : T) (xs : List T) → (y : T) × ((newest (x ∷ xs) ≡ Some y) × (x ∷ xs ≡ push (older (x ∷ xs)) y))
   by_newest x [] = (x, (refl, refl))
   by_newest x (z ∷ zs) = let r = by_newest z zs in (r.0, (r.1.0, ap (λ (u : List T). x ∷ u) r.1.1))
 
-  pub reads_newest : (f : Queue) (cs : List (Cell T)) (q : Queue) (r : Option T) → Looked cs (last q) r → ReadsNewest (mem f cs) q r
-  reads_newest f cs q r l qs xss k w i = by (list xss k) refl
+  pub reads_newest : (f : Queue) (cs : List (Cell T)) (q : Queue) (i : Option ℕ) (r : Option T) → Looked cs i r → i ≡ last q → ReadsNewest (mem f cs) q r
+  reads_newest f cs q j r l ej qs xss k w i = by (list xss k) refl
     where
       by : (xs : List T) → list xss k ≡ xs → r ≡ newest xs
-      by [] e = l.none (none_at q q.tail (len_is (mem f cs) qs xss w k q i [] e))
+      by [] e = l.none (ej ∙ none_at q q.tail (len_is (mem f cs) qs xss w k q i [] e))
       by (y ∷ ys) e =
           let b = by_newest y ys in
           let eb : map Some (y ∷ ys) ≡ map Some (older (y ∷ ys)) ++ Some b.0 ∷ [] = ap (map Some) b.1.1 ∙ map_push Some (older (y ∷ ys)) b.0 in
           let h = holds_at cs _ _ (opened (mem f cs) qs xss w) (suc k) q (chain_is (mem f cs) qs xss w k q i) _ (list_is (mem f cs) qs xss w k q i (y ∷ ys) e ∙ eb) in
           let n = last_holds _ _ cs (suc k) 0 q.head (Some b.0) (map Some (older (y ∷ ys))) q.tail h.1 in
           let ln = len_is (mem f cs) qs xss w k q i (y ∷ ys) e in
-          l.some q.tail (some_at q q.tail (omega arith)) n.1 ∙ n.2 ∙ sym b.1.0
+          l.some q.tail (ej ∙ some_at q q.tail (omega arith)) n.1 ∙ n.2 ∙ sym b.1.0
 
   none_long : (x : T) (xs : List T) → newest (x ∷ xs) ≡ None → ⊥
   none_long x xs e = let b = by_newest x xs in let u = b.1.0 in let z : ◌≡◌ {A = ℕ} 0 1 = cc in omega arith
 
   module _ (f : Queue) (cs : List (Cell T)) (q : Queue) (x : T) where
-    module _ (ds : List (Cell T)) (r : Result T T) where
+    module _ (ds : List (Cell T)) (j : Option ℕ) (r : Result T T) where
       -- an empty queue has nothing to rewrite
       nothing : (r ≡ Err x) × (ds ≡ cs) → (r ≡ Err x) × (mem f ds ≡ mem f cs)
       nothing (a, b) = (a, ap (mem f) b)
 
-      pub rewrites_oldest : Swapped cs (first q) x ds r → Rewrites oldest (λ xs. x ∷ rest xs) (mem f cs) q x (mem f ds) r
+      pub rewrites_oldest : Swapped cs j x ds r → j ≡ first q → Rewrites oldest (λ xs. x ∷ rest xs) (mem f cs) q x (mem f ds) r
       unfolding Keeps
-      rewrites_oldest s qs xss k w i = by (list xss k) refl
+      rewrites_oldest s ej qs xss k w i = by (list xss k) refl
         where
           by : (xs : List T) → list xss k ≡ xs → ((y : T) → oldest xs ≡ Some y → (r ≡ Ok y) × Keeps (mem f ds) qs (put xss k (x ∷ rest xs)) × (f.len ≡ f.len)) × (oldest xs ≡ None → (r ≡ Err x) × (mem f ds ≡ mem f cs))
-          by [] e = (λ y u. let c : ◌≡◌ {A = ℕ} 0 1 = cc in absurd (omega arith), λ _. nothing (s.refused (none_at q q.head (len_is (mem f cs) qs xss w k q i [] e))))
+          by [] e = (λ y u. let c : ◌≡◌ {A = ℕ} 0 1 = cc in absurd (omega arith), λ _. nothing (s.refused (ej ∙ none_at q q.head (len_is (mem f cs) qs xss w k q i [] e))))
           by (z ∷ zs) e = (
             λ y u.
                 let n = fill_oldest cs (f ∷ qs) (Free (mem f cs) ∷ map (map Some) xss) (opened (mem f cs) qs xss w) (suc k) q (chain_is (mem f cs) qs xss w k q i) (Some x) (Some z) (map Some zs) (list_is (mem f cs) qs xss w k q i (z ∷ zs) e) in
                 let ez : z ≡ y = cc in
                 let ln = len_is (mem f cs) qs xss w k q i (z ∷ zs) e in
-                let d = s.did q.head (some_at q q.head (omega arith)) n.0 y (n.1 ∙ ap Some ez) in
+                let d = s.did q.head (ej ∙ some_at q q.head (omega arith)) n.0 y (n.1 ∙ ap Some ez) in
                 let e2 : set (map (map Some) xss) k (Some x ∷ map Some zs) ≡ map (map Some) (put xss k (x ∷ zs)) = sym (map-set (map Some) xss k (x ∷ zs)) in
                 let c2 : Chains (filled cs q.head (Some x)) (f ∷ qs) (Free (mem f cs) ∷ set (map (map Some) xss) k (Some x ∷ map Some zs)) = n.2 in
                 (d.0, rw d.1 (rw e2 at c2), refl),
             λ u. let c : ◌≡◌ {A = ℕ} 0 1 = cc in absurd (omega arith),
           )
 
-      pub rewrites_newest : Swapped cs (last q) x ds r → Rewrites newest (λ xs. push (older xs) x) (mem f cs) q x (mem f ds) r
+      pub rewrites_newest : Swapped cs j x ds r → j ≡ last q → Rewrites newest (λ xs. push (older xs) x) (mem f cs) q x (mem f ds) r
       unfolding Keeps
-      rewrites_newest s qs xss k w i = by (list xss k) refl
+      rewrites_newest s ej qs xss k w i = by (list xss k) refl
         where
           by : (xs : List T) → list xss k ≡ xs → ((y : T) → newest xs ≡ Some y → (r ≡ Ok y) × Keeps (mem f ds) qs (put xss k (push (older xs) x)) × (f.len ≡ f.len)) × (newest xs ≡ None → (r ≡ Err x) × (mem f ds ≡ mem f cs))
-          by [] e = (λ y u. let c : ◌≡◌ {A = ℕ} 0 1 = cc in absurd (omega arith), λ _. nothing (s.refused (none_at q q.tail (len_is (mem f cs) qs xss w k q i [] e))))
+          by [] e = (λ y u. let c : ◌≡◌ {A = ℕ} 0 1 = cc in absurd (omega arith), λ _. nothing (s.refused (ej ∙ none_at q q.tail (len_is (mem f cs) qs xss w k q i [] e))))
           by (z ∷ zs) e = (
             λ y u.
                 let b = by_newest z zs in
@@ -248,7 +248,7 @@ module _ {T : Type 0} where
                 let eb : map Some (z ∷ zs) ≡ map Some (older (z ∷ zs)) ++ Some b.0 ∷ [] = ap (map Some) b.1.1 ∙ map_push Some (older (z ∷ zs)) b.0 in
                 let n = fill_newest cs (f ∷ qs) (Free (mem f cs) ∷ map (map Some) xss) (opened (mem f cs) qs xss w) (suc k) q (chain_is (mem f cs) qs xss w k q i) (Some x) (Some b.0) (map Some (older (z ∷ zs))) (list_is (mem f cs) qs xss w k q i (z ∷ zs) e ∙ eb) in
                 let ln = len_is (mem f cs) qs xss w k q i (z ∷ zs) e in
-                let d = s.did q.tail (some_at q q.tail (omega arith)) n.0 y (n.1 ∙ ap Some ey) in
+                let d = s.did q.tail (ej ∙ some_at q q.tail (omega arith)) n.0 y (n.1 ∙ ap Some ey) in
                 let e2 : set (map (map Some) xss) k (map Some (older (z ∷ zs)) ++ Some x ∷ []) ≡ map (map Some) (put xss k (push (older (z ∷ zs)) x)) =
                 rw (map-set, map_push) refl in
                 let c2 : Chains (filled cs q.tail (Some x)) (f ∷ qs) (Free (mem f cs) ∷ set (map (map Some) xss) k (map Some (older (z ∷ zs)) ++ Some x ∷ [])) = n.2 in

@@ -54,7 +54,7 @@ pub fn memory<T: Drop>(heap: Global, n: usize) -> Result<Vec<Cell<T>>, AllocErro
 }
 
 // A chain of cells: its first, its last, and how many.
-#[derive(Clone, Copy, PartialEq, Eq, Debug)]
+#[derive(Clone, Copy, Default, PartialEq, Eq, Debug)]
 pub struct Queue {
     head: usize,
     tail: usize,

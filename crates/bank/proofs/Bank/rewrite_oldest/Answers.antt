@@ -2,4 +2,4 @@ use Rattle.bank.proofs.Steps.{rewrites_oldest}
 use Rattle.bank.proofs.Bank.rewrite_oldest.Goals as goal
 
 pub returns-clause-law : goal.returns-clause-law
-returns-clause-law g c = rewrites_oldest c.args.self.now.free c.args.self.now.cells.now c.args.q.now c.args.x _ _ (rw c.first.ensures at c.swap.ensures.law)
+returns-clause-law g c = rewrites_oldest c.args.self.now.free c.args.self.now.cells.now c.args.q.now c.args.x _ _ _ c.swap.ensures.law (cc)
