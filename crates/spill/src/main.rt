@@ -16,8 +16,7 @@ use resources::store::Store;
 use resources::tripping::Tripping;
 use spill_pool::fault::Fault;
 use spill_pool::{Disk, FileRecord, PoolPoll, SpillPool};
-use std::fmt;
-use std::io;
+use std::{fmt, io};
 use stores::block::BlockStore;
 use stores::log::LogStore;
 use stores::logs::RECORD_LEAST;
@@ -139,13 +138,13 @@ fn is_file(file: Option<FileRecord>, number: u32) -> bool {
 
 // A pool over a store, whose calls are said.
 #[derive(Drop)]
-struct Session<'a, S> {
-    rt: &'a HostRuntime,
+struct Session<'r, 'a, S> {
+    rt: &'r HostRuntime,
     pool: SpillPool<Notice>,
     disk: Disk<'a, S>,
 }
 
-impl<S: Store> Session<'_, S> {
+impl<S: Store> Session<'_, '_, S> {
     // Looks at the pool's files.
     fn ends(&self) -> Ends {
         Ends {
@@ -158,16 +157,27 @@ impl<S: Store> Session<'_, S> {
     fn say_changes(&self, before: Ends) -> io::Result<()> {
         let rt = self.rt;
         let after = self.ends();
-        if let Some(FileRecord { number, .. }) = before.oldest && !is_file(after.oldest, number) {
+        if let Some(FileRecord { number, .. }) = before.oldest
+            && !is_file(after.oldest, number)
+        {
             println!(rt; "      file {number} goes")?;
         }
-        let Some(FileRecord { number, finished, .. }) = after.newest else {
+        let Some(
+            FileRecord {
+                number,
+                finished,
+                ..
+            },
+        ) = after.newest
+        else {
             return Ok(());
         };
         if !is_file(before.newest, number) {
             println!(rt; "      file {number} opens")?;
         }
-        let was_finished = before.newest.is_some_and(|file| file.number == number && file.finished);
+        let was_finished = before
+            .newest
+            .is_some_and(|file| file.number == number && file.finished);
         if finished && !was_finished {
             println!(rt; "      file {number} is finished")?;
         }
