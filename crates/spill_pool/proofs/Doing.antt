@@ -108,7 +108,7 @@ module _ (s : Setup) (f : Facts) (m : Pool) (fs : Files) (b : Batch) (a : Replie
 
 -- which file is open, by what the pool keeps of it
 pub shows_some : (c : Option OpenFile) (x : OpenFile) (o : Option FileRecord) → Shows c o → c ≡ Some x → (r : FileRecord) × (o ≡ Some r) × (x ≡ current_of r)
-shows_some c x None e l = absurd (let z : ◌≡◌ {A = ℕ} 0 1 = cc in omega arith)
+shows_some c x None e l = absurd (cc)
 shows_some c x (Some r) e l = (r, refl, cc)
 
 pub shows_none : (c : Option OpenFile) (rs : List FileRecord) → Shows c (open_file rs) → c ≡ None → open_file rs ≡ None
@@ -116,7 +116,7 @@ shows_none c rs sh l = by (open_file rs) refl sh
   where
     by : (o : Option FileRecord) → open_file rs ≡ o → Shows c o → open_file rs ≡ None
     by None e s = e
-    by (Some r) e s = absurd (let z : ◌≡◌ {A = ℕ} 0 1 = cc in omega arith)
+    by (Some r) e s = absurd (cc)
 
 module _ {P : Type 0} {k : Kind P} (law : Lawful k) (x : P) (p : SpillPool P) (d : Mem FileRecord) (fs : Files) where
   abbrev b : Batch

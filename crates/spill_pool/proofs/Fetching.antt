@@ -87,7 +87,7 @@ module _ {P : Type 0} {k : Kind P} (law : Lawful k) (p : SpillPool P) (d : Mem F
         by o m rep (x ∷ xs) q =
             let h = found (p.files ∷ o.queues) (m.files ∷ o.lists) 0 rep.files (first p.files o.queues) in
             let g : oldest m.files ≡ Some x = ap oldest q in
-            absurd (let z : ◌≡◌ {A = ℕ} 0 1 = cc in omega arith)
+            absurd (cc)
 
     -- n is the oldest record
     module _ (n : FileRecord) (found : ReadsOldest d p.files (Some n)) where
@@ -98,7 +98,7 @@ module _ {P : Type 0} {k : Kind P} (law : Lawful k) (p : SpillPool P) (d : Mem F
           by [] q =
               let h = found (p.files ∷ o.queues) (m.files ∷ o.lists) 0 rep.files (first p.files o.queues) in
               let g : oldest m.files ≡ None = ap oldest q in
-              absurd (let z : ◌≡◌ {A = ℕ} 0 1 = cc in omega arith)
+              absurd (cc)
           by (x ∷ xs) q =
               let h = found (p.files ∷ o.queues) (m.files ∷ o.lists) 0 rep.files (first p.files o.queues) in
               let g : oldest m.files ≡ Some x = ap oldest q in

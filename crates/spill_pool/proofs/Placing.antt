@@ -37,7 +37,7 @@ module _ (d : Mem FileRecord) (q : Queue) (fs : Files) (d' : Mem FileRecord) (q'
   pub removes_none : Takes d q d' q' None → RemovesOldest d q fs d' q' fs'
   removes_none a o x behind k =
       let h = (a (q ∷ o.queues) ((x ∷ behind) ∷ o.lists) 0 k (first q o.queues)).0 in
-      absurd (let z : ◌≡◌ {A = ℕ} 0 1 = cc in omega arith)
+      absurd (cc)
 
   pub files_spent : (y : FileRecord) → is_spent y ≡ true → fs' ≡ swept fs y → d' ≡ d → q' ≡ q → FilesAway y d q fs d' q' fs'
   files_spent y e s ed eq o before k l =
@@ -75,7 +75,7 @@ module _ (d : Mem FileRecord) (q : Queue) (fs : Files) (d' : Mem FileRecord) (q'
   pub settles_none : (y : FileRecord) → ReadsNewest d q None → Settles y d q fs d' q' fs'
   settles_none y found o before r k one =
       let h = found (q ∷ o.queues) (push before r ∷ o.lists) 0 k (first q o.queues) ∙ newest-push before r in
-      absurd (let z : ◌≡◌ {A = ℕ} 0 1 = cc in omega arith)
+      absurd (cc)
 
 removed-push : (fs : Files) (rs : List FileRecord) (r : FileRecord) → removed fs (rs ++ r ∷ []) ≡ remove_after (removed fs rs) r.number
 removed-push fs [] r = refl

@@ -16,7 +16,7 @@ use Rattle.spill_pool.specs.declared.Push.TheVariants.{Kept, Failed}
 use Rattle.spill_pool.specs.Faults.{store_fault}
 use Rattle.spill_pool.specs.Meaning.{Setup, Batch, Replies, Used, WriteLawful, NewLawful, is_full, is_spent, new_file, grown, ended, open_file}
 use Rattle.spill_pool.specs.Steps.{Written, rotate, write_by, write, push_new, told, listed, swept}
-use Rattle.spill_pool.specs.Calls.{current_of, record_of, kept_of, with_read, Shows, parcel, Writes, Settles, FilesAway, PushesOpen, PushesNew}
+use Rattle.spill_pool.specs.Calls.{current_of, record_of, kept_of, with_read, Shows, parcel, fault_or, Creates, Writes, Settles, FilesAway, PushesOpen, PushesNew}
 use Rattle.spill_pool.proofs.Listing.{open_push, open_finished, open_none, all_push_parts}
 use Rattle.spill_pool.proofs.Settling.{spent_parts}
 use Rattle.spill_pool.proofs.Pushing.{last_parts}
@@ -37,7 +37,7 @@ shows_listed before y c done e =
 pub alone : (before : List FileRecord) (x : FileRecord) → ((before ≡ [] → ⊥) → x.read ≡ 0) → (y : FileRecord) → y.read ≡ x.read → 0 < x.written → x.written ≤ y.written → is_spent y ≡ true → before ≡ []
 alone [] x first y er sw le sp = refl
 alone (f ∷ before) x first y er sw le sp =
-    let n : x.read ≡ 0 = first (λ q. let o : ◌≡◌ {A = ℕ} 0 1 = cc in omega arith) in
+    let n : x.read ≡ 0 = first (λ q. cc) in
     absurd (let u = (spent_parts 0 0 y sp).1 in omega arith)
 
 -- a write leaves what was read, and takes no batch away
@@ -72,6 +72,15 @@ module _ (s : Setup) (r : FileRecord) (n : ℕ) (fs : Files) (b : Batch) (a : Re
   unfolding write
   write_same = same_by a.append
 
+-- what a create that is told as made, or as failed, did
+made_by : (p n : ℕ) (fs gs : Files) (y : Result ℕ Cause) → CreateLawful fs y → Ok n ≡ fault_or p Create y → gs ≡ create_after fs y → CreateLawful fs (Ok n) × (gs ≡ create_after fs (Ok n))
+made_by p n fs gs (Ok m) l a g = let e : m ≡ n = cc in (subst (λ (u : ℕ). CreateLawful fs (Ok u)) e l, g ∙ ap (λ (u : ℕ). create_after fs (Ok u)) e)
+made_by p n fs gs (Err x) l a g = absurd (cc)
+
+unmade_by : (p : ℕ) (f : Fault) (fs gs : Files) (y : Result ℕ Cause) → CreateLawful fs y → Err f ≡ fault_or p Create y → gs ≡ create_after fs y → (x : Cause) × CreateLawful fs (Err x) × (gs ≡ fs) × (f ≡ store_fault p Create x)
+unmade_by p f fs gs (Ok m) l a g = absurd (cc)
+unmade_by p f fs gs (Err x) l a g = (x, l, g, cc)
+
 module _ (s : Setup) (size : ℕ) (ws : List ℕ) (d : Mem FileRecord) (q : Queue) (d' : Mem FileRecord) (q' : Queue) (fs' : Files) where
   module _ (c : OpenFile) (fs : Files) (c' : Option OpenFile) (f y : FileRecord) (gs : Files) (r : Result (Option Fault) Fault) (made : f ≡ record_of c) (h : Writes s size ws f fs y gs r) (kept : c' ≡ kept_of y) (t : Settles y d q gs d' q' fs') where
     pub pushes_open : PushesOpen s size ws d q c fs d' q' c' fs' r
@@ -100,10 +109,11 @@ module _ (s : Setup) (size : ℕ) (ws : List ℕ) (d : Mem FileRecord) (q : Queu
           current = shows_listed (older m.files) to.file c' sound.order (kept ∙ ap kept_of ry);
         }
 
-  module _ (fs : Files) (n : ℕ) (c₀ c' : Option OpenFile) (f y : FileRecord) (gs hs : Files) (r : Result (Option Fault) Fault) (lawful : CreateLawful fs (Ok n)) (made : gs ≡ create_after fs (Ok n))
+  module _ (fs : Files) (n : ℕ) (c₀ c' : Option OpenFile) (f y : FileRecord) (gs hs : Files) (r : Result (Option Fault) Fault) (create : Creates s.partition fs gs (Ok n))
       (new : f ≡ new_file n) (h : Writes s size ws f gs y hs r) (kept : c' ≡ kept_of y) (t : FilesAway y d q hs d' q' fs') where
     pub pushes_new : PushesNew s size ws d q c₀ fs d' q' c' fs' r
     pushes_new w rows o m k show sound e free =
+        let c = made_by s.partition n fs gs create.reply create.lawful create.answer create.store in let lawful = c.0 in let made = c.1 in
         let v = (subst (λ (u : FileRecord). Writes s size ws u gs y hs r) new h) rows (Ok n) refl (omega arith) (omega arith) in
         let b = parcel rows size ws in
         let a = v.replies in
@@ -124,12 +134,14 @@ module _ (s : Setup) (size : ℕ) (ws : List ℕ) (d : Mem FileRecord) (q : Queu
         }
 
   -- a create that failed
-  pub pushes_unmade : (c : Option OpenFile) (fs : Files) (x : Cause) (f : Fault) → CreateLawful fs (Err x) → fs' ≡ fs → d' ≡ d → q' ≡ q → f ≡ store_fault s.partition Create x → PushesNew s size ws d q c fs d' q' c fs' (Err f)
-  pushes_unmade c fs x f lawful es ed eq ef w rows o m k show sound e free = record {
-    replies = record { create = Err x; append = Err Device; finish = Err Device; read = Err Device };
-    lawfully = (lawful, tt);
-    answer = ap (λ (u : Fault). Ok (Failed u)) ef;
-    store = es;
-    files = subst (λ (u : Mem FileRecord). Keeps u (q' ∷ o.queues) (m.files ∷ o.lists)) (sym ed) (subst (λ (u : Queue). Keeps d (u ∷ o.queues) (m.files ∷ o.lists)) (sym eq) k);
-    current = show;
-  }
+  pub pushes_unmade : (c : Option OpenFile) (fs : Files) (f : Fault) → Creates s.partition fs fs' (Err f) → d' ≡ d → q' ≡ q → PushesNew s size ws d q c fs d' q' c fs' (Err f)
+  pushes_unmade c fs f create ed eq w rows o m k show sound e free =
+      let u = unmade_by s.partition f fs fs' create.reply create.lawful create.answer create.store in
+      record {
+        replies = record { create = Err u.0; append = Err Device; finish = Err Device; read = Err Device };
+        lawfully = (u.1, tt);
+        answer = ap (λ (x : Fault). Ok (Failed x)) u.3;
+        store = u.2;
+        files = subst (λ (x : Mem FileRecord). Keeps x (q' ∷ o.queues) (m.files ∷ o.lists)) (sym ed) (subst (λ (x : Queue). Keeps d (x ∷ o.queues) (m.files ∷ o.lists)) (sym eq) k);
+        current = show;
+      }

@@ -6,9 +6,10 @@ use Rattle.bank.specs.declared.Queue.{Queue}
 use Rattle.bank.specs.Lists.{push, older}
 use Rattle.bank.specs.Banks.{Mem, view, size, SameCells, freed, Keeps}
 use Rattle.resources.specs.declared.cause.Cause.{Cause}
-use Rattle.resources.specs.Files.{Files, CreateLawful, AppendLawful, append_after, FinishLawful, finish_after, remove_after}
+use Rattle.resources.specs.Files.{Files, CreateLawful, create_after, AppendLawful, append_after, FinishLawful, finish_after, remove_after}
 use Rattle.spill_pool.specs.declared.fault.Fault.{Fault}
-use Rattle.spill_pool.specs.declared.fault.StoreCall.TheVariants.{Append}
+use Rattle.spill_pool.specs.declared.fault.StoreCall.{StoreCall}
+use Rattle.spill_pool.specs.declared.fault.StoreCall.TheVariants.{Create, Append}
 use Rattle.spill_pool.specs.declared.Disk.{Disk}
 use Rattle.spill_pool.specs.declared.FileRecord.{FileRecord}
 use Rattle.spill_pool.specs.declared.OpenFile.{OpenFile}
@@ -54,16 +55,23 @@ abbrev pub outcome : Result (Option Fault) Fault → Push
 outcome (Ok t) = Kept t
 outcome (Err e) = Failed e
 
--- an answer of the store, with its cause told as a fault of append
-abbrev pub append_or : ℕ → ℕ → Result (Unit {0}) Cause → Result (Unit {0}) Fault
-append_or p n (Ok u) = Ok u
-append_or p n (Err c) = Err (store_fault p (Append n) c)
+-- an answer of the store, with its cause told as a fault of that call
+abbrev pub fault_or : {A : Type 0} → ℕ → StoreCall → Result A Cause → Result A Fault
+fault_or p call (Ok x) = Ok x
+fault_or p call (Err c) = Err (store_fault p call c)
+
+-- a create, by some lawful answer of the store
+pub record Creates (p : ℕ) (fs fs' : Files) (r : Result ℕ Fault) : Type 0 where
+  pub reply : Result ℕ Cause
+  pub lawful : CreateLawful fs reply
+  pub answer : r ≡ fault_or p Create reply
+  pub store : fs' ≡ create_after fs reply
 
 -- an append, by some lawful answer of the store
 pub record Appends (p n : ℕ) (ws : List ℕ) (fs fs' : Files) (r : Result (Unit {0}) Fault) : Type 0 where
   pub reply : Result (Unit {0}) Cause
   pub lawful : AppendLawful fs n ws reply
-  pub answer : r ≡ append_or p n reply
+  pub answer : r ≡ fault_or p (Append n) reply
   pub store : fs' ≡ append_after fs n ws reply
 
 -- a finish, by some lawful answer of the store

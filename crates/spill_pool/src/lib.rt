@@ -20,7 +20,7 @@ ghost use Rattle.std.specs.Prelude.{◌≡◌, ℕ, ◌^◌, ◌<◌, not, ◌&&
 ghost use Rattle.bank.specs.Banks.{view, size as extent, SameCells};
 ghost use Rattle.bank.specs.Lists.{oldest as oldest_of, newest as newest_of};
 ghost use Rattle.spill_pool.specs.Meaning.{is_spent, is_full, new_file, kind_of};
-ghost use Rattle.spill_pool.specs.Calls.{Appends, Finishes, Writes, Sweeps, Settles, FilesAway, Advances, RemovesOldest, Clears, PushesOpen, PushesNew, Opens, Finds, Pushes, Polls, Closes, Removes, Chronicles, Orderly, record_of, kept_of, outcome};
+ghost use Rattle.spill_pool.specs.Calls.{Creates, Appends, Finishes, Writes, Sweeps, Settles, FilesAway, Advances, RemovesOldest, Clears, PushesOpen, PushesNew, Opens, Finds, Pushes, Polls, Closes, Removes, Chronicles, Orderly, record_of, kept_of, outcome};
 ghost use Rattle.spill_pool.specs.Runs.{Runs};
 ghost use Rattle.spill_pool.specs.Texts.{push_text};
 ghost use Rattle.spill_pool.specs.Histories.{pushes as pushing, polls as polling, closes as closing, removes as removing};
@@ -147,6 +147,13 @@ pub enum PoolPoll<P> {
     Wait,
     // nothing is unread, and nothing will be
     End,
+}
+
+// Makes a file of the store.
+fn create_in<S: Store>(store: &mut S, partition: usize) -> Result<u32, Fault>
+    ensures { Creates partition (S.Store.files store.old) (S.Store.files store.new) result }
+{
+    store.create().map_err(|cause| Fault::of_store(partition, StoreCall::Create, cause))
 }
 
 // Appends to a file of the store.
@@ -277,6 +284,7 @@ fn sweep<S: Store>(store: &mut S, file: &FileRecord) -> bool
 
 impl<S: Store> Disk<'_, S> {
     // Writes the record of a file that was open to its place, that of the newest, which says how much of it was read; a spent file goes.
+    // `advance` is its twin at the other end: one function for both would take the end's call as a closure, and a longer contract.
     fn settle(&mut self, files: &mut Queue, file: FileRecord)
         ensures law { Settles file (view self.old.places) files.old (S.Store.files self.old.store) (view self.new.places) files.new (S.Store.files self.new.store) }
         ensures same { SameCells self.old.places self.new.places }
@@ -369,10 +377,7 @@ impl<S: Store> Disk<'_, S> {
         ensures law { PushesNew setup batch.now.size batch.now.words.now (view self.old.places) files.old current.old (S.Store.files self.old.store) (view self.new.places) files.new current.new (S.Store.files self.new.store) result }
         ensures same { SameCells self.old.places self.new.places }
     {
-        let number = match self.store.create() {
-            Ok(number) => number,
-            Err(cause) => return Err(Fault::of_store(setup.partition, StoreCall::Create, cause)),
-        };
+        let number = create_in(&mut self.store, setup.partition)?;
         let mut file = FileRecord::new(number);
         let written = file.write(&mut self.store, setup, batch);
         *current = file.kept();
