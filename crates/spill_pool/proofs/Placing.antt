@@ -10,7 +10,7 @@ use Rattle.resources.specs.Files.{Files, remove_after}
 use Rattle.spill_pool.specs.declared.FileRecord.{FileRecord}
 use Rattle.spill_pool.specs.Meaning.{is_spent, new_file}
 use Rattle.spill_pool.specs.Steps.{listed, ahead, swept, removed}
-use Rattle.spill_pool.specs.Calls.{Others, with_read, Sweeps, Settles, FilesAway, Advances, RemovesOldest, Clears, ClearsSome}
+use Rattle.spill_pool.specs.Calls.{Others, with_read, Settles, FilesAway, Advances, RemovesOldest, Clears, ClearsSome}
 use Rattle.spill_pool.proofs.Listing.{newest-push, older-push}
 
 -- the pool's queue comes first

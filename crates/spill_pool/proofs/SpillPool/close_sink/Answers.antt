@@ -1,6 +1,5 @@
 use Rattle.std.proofs.Common.{sym, refl, ◌∙◌}
 use Rattle.std.proofs.lemmas.Result.{err_from_is_err_and}
-use Rattle.bank.specs.Banks.{view}
 use Rattle.spill_pool.specs.Meaning.{Lawful, kind_of}
 use Rattle.spill_pool.proofs.Shutting.{closes_unfit, closes_shut, closes_fewer, closes_none, closes_last, close_history}
 use Rattle.spill_pool.proofs.SpillPool.close_sink.Given as given

@@ -1,6 +1,5 @@
 use Rattle.std.proofs.Common.{refl}
 use Rattle.std.proofs.lemmas.Result.{err_from_is_err_and}
-use Rattle.bank.specs.Banks.{view}
 use Rattle.spill_pool.specs.Meaning.{Lawful, kind_of}
 use Rattle.spill_pool.proofs.Fetching.{polls_unfit, polls_none, polls_drained, polls_faulty, polls_batch, poll_history}
 use Rattle.spill_pool.proofs.SpillPool.poll.Given as given

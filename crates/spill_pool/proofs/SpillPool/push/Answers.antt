@@ -1,6 +1,5 @@
 use Rattle.std.proofs.Common.{sym, refl, ◌∙◌}
 use Rattle.std.proofs.lemmas.Result.{err_from_is_err_and}
-use Rattle.bank.specs.Banks.{view}
 use Rattle.spill_pool.specs.Meaning.{Lawful, kind_of}
 use Rattle.spill_pool.proofs.Doing.{pushes_unfit, pushes_shut, pushes_skip, pushes_full, pushes_to_open, pushes_to_new, push-history, front_words}
 use Rattle.spill_pool.proofs.SpillPool.push.Given as given

@@ -1,6 +1,5 @@
 use Rattle.std.proofs.Common.{refl}
 use Rattle.std.proofs.lemmas.Result.{err_from_is_err_and}
-use Rattle.bank.specs.Banks.{view}
 use Rattle.spill_pool.specs.Meaning.{Lawful, kind_of}
 use Rattle.spill_pool.proofs.Shutting.{removes_unfit, removes_all, remove-history}
 use Rattle.spill_pool.proofs.SpillPool.remove_all.Given as given
