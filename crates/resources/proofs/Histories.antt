@@ -1,13 +1,12 @@
 -- One call more in a history. Assumes nothing.
-use Rattle.std.proofs.Common.{◌≡◌, ℕ, ◌+◌, ◌-◌, ◌<◌, min, true, false, cond, eqb, List, [], ◌∷◌, ◌++◌, length, get_or, take, drop, set, Some, None, Option, Result, sym, refl, ap, ◌∙◌, subst, ⊎_elim, arith, length-append, length-drop, length-take}
+use Rattle.std.proofs.Common.{◌≡◌, ℕ, ◌+◌, ◌<◌, true, false, cond, eqb, List, [], ◌∷◌, ◌++◌, length, get_or, take, set, Some, None, Option, Result, sym, refl, ap, ◌∙◌, subst, ⊎_elim, arith, length-take}
 use Rattle.std.specs.List.{slice_get}
-use Rattle.std.specs.Option.{option_map}
-use Rattle.std.proofs.lemmas.List.{take_at, take_more, take_more_set, drop-drop, drop-set-lt}
+use Rattle.std.proofs.lemmas.List.{take_more, take_more_set}
 use Rattle.std.proofs.lemmas.Bool.{cases_eq, cond-true, cond-false, eq-eqb, ne_eqb}
 use Rattle.resources.specs.declared.runs.Call.{Call}
 use Rattle.resources.specs.declared.cause.Cause.{Cause}
 use Rattle.resources.specs.declared.runs.Answer.{Answer}
-use Rattle.resources.specs.Files.{File, Files, put, fresh, extended, shut, batch_at, laid, Ask, Reply}
+use Rattle.resources.specs.Files.{File, Files, put, fresh, extended, shut, batch_at, Ask, Reply}
 use Rattle.resources.specs.History.{Event, created, appended, shutdown, gave, removed, nothing, event, history, batches_of, held_by, appends, Faithful, Happens, Asked, Ran, more}
 
 pub history_more : (h : List Event) (cs : List Call) (rs : List (Result Answer Cause)) (c : Call) (r : Result Answer Cause) → length cs ≡ length rs → history h (cs ++ c ∷ []) (rs ++ r ∷ []) ≡ event c r ∷ history h cs rs

@@ -32,12 +32,12 @@ live_at (Some f) = f.live
 -- the file with one more batch
 abbrev pub extended : Option File → List ℕ → Option File
 extended None ws = None
-extended (Some f) ws = Some (record { live = f.live; batches = f.batches ++ ws ∷ [] })
+extended (Some f) ws = Some (record f { batches = f.batches ++ ws ∷ [] })
 
 -- the file, finished
 abbrev pub shut : Option File → Option File
 shut None = None
-shut (Some f) = Some (record { live = false; batches = f.batches })
+shut (Some f) = Some (record f { live = false })
 
 -- batch k, from 0
 abbrev pub batch_at : Option File → ℕ → Option (List ℕ)

@@ -1,5 +1,5 @@
 -- What happened to a store, call by call, and what its reads gave. Assumes nothing.
-use Rattle.std.specs.Prelude.{◌≡◌, ℕ, cond, List, [], ◌∷◌, ◌++◌, take, Some, None, Ok, Err, Option, Result, ◌==◌, ◌≢◌}
+use Rattle.std.specs.Prelude.{◌≡◌, ℕ, cond, List, [], ◌∷◌, ◌++◌, Some, None, Ok, Err, Option, Result, ◌==◌, ◌≢◌}
 use Rattle.std.specs.List.{slice_get}
 use Rattle.resources.specs.declared.cause.Cause.{Cause}
 use Rattle.arrayvec.specs.ArrayVec.{array_vec_len}

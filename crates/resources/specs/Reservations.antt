@@ -28,7 +28,7 @@ ceiling_standing c = record { held = c.held; headroom = c.limit - c.held }
 
 -- a tenant's headroom is what all together leave of the limit
 abbrev pub tenant_standing : Tenants → ℕ → Standing
-tenant_standing t i = record { held = slice_index t.held i; headroom = t.limit - t.taken }
+tenant_standing t i = record { held = slice_index t.held i; headroom = (ceiling_standing t.all).headroom }
 
 -- the same, of the tenant that a handle names
 abbrev pub hand_standing : Tenant → Standing
@@ -55,9 +55,9 @@ whole m = m.held + m.headroom
 
 -- what a tenant's call leaves: its own number and the common sum move together, the others and the limit stay
 pub record TenantMoved (t : Tenants) (i : ℕ) (m : Standing) (u : Tenants) : Type 0 where
-  pub limit : u.limit ≡ t.limit
+  pub limit : u.all.limit ≡ t.all.limit
   pub held : u.held ≡ slice_set t.held i m.held
-  pub headroom : u.limit - u.taken ≡ m.headroom
+  pub headroom : (ceiling_standing u.all).headroom ≡ m.headroom
 
 -- the answer to a tenant's call; a tenant that is not there is refused
 abbrev pub tenant_answer : Tenants → TenantChange → Result Bool Refusal

@@ -1,5 +1,6 @@
 -- Which calls trip, and what a tripping store does. Assumes nothing.
-use Rattle.std.specs.Prelude.{◌≡◌, ℕ, ◌+◌, ◌-◌, ◌^◌, Bool, true, false, cond, ◌&&◌, ◌||◌, List, [], ◌∷◌, ◌==◌, nat_lt}
+use Rattle.std.specs.Prelude.{◌≡◌, ℕ, ◌+◌, ◌-◌, ◌^◌, Bool, true, false, cond, ◌&&◌, List, ◌==◌, nat_lt}
+use Rattle.std.specs.List.{list_any}
 use Rattle.resources.specs.declared.cause.Cause.TheVariants.{Device}
 use Rattle.resources.specs.declared.tripping.Tripping.{Tripping}
 use Rattle.resources.specs.Files.{Ask, create, append, finish, read, remove, Reply, failed}
@@ -10,8 +11,7 @@ next_call n = cond (nat_lt n (2 ^ 64 - 1)) (n + 1) n
 
 -- is the number in the list?
 abbrev pub listed : ℕ → List ℕ → Bool
-listed n [] = false
-listed n (x ∷ xs) = x == n || listed n xs
+listed n xs = list_any (λ x. x == n) xs
 
 -- every call but remove is counted
 abbrev pub counts : Ask → Bool

@@ -60,6 +60,7 @@ pub fn run<S: Store>(store: &mut S, calls: &[Call], answers: &mut [Result<Answer
 {
     let n = calls.len().min(answers.len());
     for (i, call) in calls[..n].iter().enumerate() {
+        // by index: of answers that are written through a zip a proof knows nothing
         answers[i] = perform(store, *call);
     }
 }

@@ -1,5 +1,5 @@
--- One call more, and at the end.
-use Rattle.std.proofs.Common.{◌≡◌, ◌<◌, min, length, refl, arith, length-take}
+-- No call yet, and one call more.
+use Rattle.std.proofs.Common.{◌<◌, length, refl, arith, length-take}
 use Rattle.std.proofs.lemmas.Grind.{common_steps}
 use Rattle.std.proofs.lemmas.List.{get_or-take}
 use Rattle.resources.specs.History.{none}
@@ -23,10 +23,3 @@ loop-i-preserved g c =
       running_more (files c.args.store.now) (files c.loop-i.store) (files c.perform.new.store) cs c.loop-i.answers i _ c.perform.result lc lr c.loop-i.invariant.1 made.happens,
       grind (arith, common_steps),
     )
-
-pub returns : goal.returns
-returns g c =
-    let short = length-take c.min-n.result c.args.calls.now in
-    let e : c.loop-i.i ≡ min (length c.args.calls.now) (length c.args.answers.now) = omega (arith, c.loop-i-test.false, short, c.min-n.ensures) in
-    let kept = rw e at c.loop-i.invariant in
-    record { rest = kept.2; asked = kept.0; faithful = kept.1.0; holds = kept.1.1 }
