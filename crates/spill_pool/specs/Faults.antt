@@ -1,5 +1,5 @@
 -- The numbers of a fault's parts, and the faults that a store's causes make. Assumes nothing.
-use Rattle.std.specs.Prelude.{ℕ}
+use Rattle.std.specs.Prelude.{ℕ, Some, None, Option}
 use Rattle.resources.specs.declared.cause.Cause.{Cause}
 use Rattle.resources.specs.Causes.{cause_number}
 use Rattle.spill_pool.specs.declared.fault.Layer.{Layer}
@@ -22,6 +22,17 @@ store_number (Read file) = 4
 abbrev pub call_number : Layer → ℕ
 call_number Feed = 0
 call_number (Store call) = store_number call
+
+-- the file on which the call was made, if it was made on one
+abbrev pub layer_file : Layer → Option ℕ
+layer_file Feed = None
+layer_file (Store Create) = None
+layer_file (Store (Append file)) = Some file
+layer_file (Store (Finish file)) = Some file
+layer_file (Store (Read file)) = Some file
+
+abbrev pub file_of : Fault → Option ℕ
+file_of f = layer_file f.layer
 
 -- a store's call failed with a cause
 abbrev pub store_fault : ℕ → StoreCall → Cause → Fault

@@ -1,7 +1,7 @@
 // A fault: what failed, where, and why.
 ghost use Rattle.std.specs.Prelude.{◌≡◌, Some};
 ghost use Rattle.resources.specs.declared.cause.Cause.{Cause as StoreCause};
-ghost use Rattle.spill_pool.specs.Faults.{layer_number, call_number, store_number, store_fault, feed_fault};
+ghost use Rattle.spill_pool.specs.Faults.{layer_number, call_number, store_number, file_of, store_fault, feed_fault};
 ghost use Rattle.spill_pool.specs.Texts.{call_text, layer_text, fault_text};
 
 use resources::cause::Cause;
@@ -82,6 +82,18 @@ impl Fault {
             layer: Layer::Store(call),
             partition,
             cause: cause.number(),
+        }
+    }
+
+    // The number of the file on which the call was made: none for a feed and for create.
+    pub fn file(&self) -> Option<u32>
+        ensures { result ≡ file_of self.now }
+    {
+        match self.layer {
+            Layer::Feed | Layer::Store(StoreCall::Create) => None,
+            Layer::Store(
+                StoreCall::Append(file) | StoreCall::Finish(file) | StoreCall::Read(file),
+            ) => Some(file),
         }
     }
 
