@@ -1,7 +1,7 @@
 -- What a store means: files by number, each open or finished, each an ordered list of batches as words.
 -- Which answer comes is open: what a call leaves is a function of what was, the arguments and the answer, and a predicate says which
 -- answers what was allows. Assumes nothing.
-use Rattle.std.specs.Prelude.{◌≡◌, ℕ, ◌^◌, ◌<◌, Bool, true, false, cond, ◌&&◌, List, [], ◌∷◌, ◌++◌, length, drop, is_some, Some, None, Ok, Err, Option, Result, nat_eq, nat_le, nat_lt}
+use Rattle.std.specs.Prelude.{◌≡◌, ℕ, ◌^◌, ◌<◌, Bool, true, false, if◌then◌else◌, ◌&&◌, List, [], ◌∷◌, ◌++◌, length, drop, is_some, Some, None, Ok, Err, Option, Result, nat_eq, nat_le, nat_lt}
 use Rattle.std.specs.List.{slice_get}
 use Rattle.std.specs.Option.{option_map}
 use Rattle.resources.specs.declared.cause.Cause.{Cause}
@@ -18,7 +18,7 @@ Files = ℕ → Option File
 
 -- the file of one number becomes f, and no other changes
 abbrev pub put : Files → ℕ → Option File → Files
-put fs n f = λ q. cond (nat_eq q n) f (fs q)
+put fs n f = λ q. if nat_eq q n then f else fs q
 
 -- an open file without batches
 abbrev pub fresh : File

@@ -1,5 +1,5 @@
 -- What happened to a store, call by call, and what its reads gave. Assumes nothing.
-use Rattle.std.specs.Prelude.{◌≡◌, ℕ, cond, List, [], ◌∷◌, ◌++◌, Some, None, Ok, Err, Option, Result, ◌==◌, ◌≢◌}
+use Rattle.std.specs.Prelude.{◌≡◌, ℕ, if◌then◌else◌, List, [], ◌∷◌, ◌++◌, Some, None, Ok, Err, Option, Result, ◌==◌, ◌≢◌}
 use Rattle.std.specs.List.{slice_get}
 use Rattle.resources.specs.declared.cause.Cause.{Cause}
 use Rattle.arrayvec.specs.ArrayVec.{array_vec_len}
@@ -44,11 +44,11 @@ held_by fs n = batches_of (fs n)
 -- the batches that the appends to a file gave since it was made or removed; before all, what it had
 abbrev pub appends : (ℕ → List (List ℕ)) → List Event → ℕ → List (List ℕ)
 appends old [] n = old n
-appends old (created m ∷ h) n = cond (n == m) [] (appends old h n)
-appends old (appended m ws ∷ h) n = cond (n == m) (appends old h n ++ ws ∷ []) (appends old h n)
+appends old (created m ∷ h) n = if n == m then [] else appends old h n
+appends old (appended m ws ∷ h) n = if n == m then appends old h n ++ ws ∷ [] else appends old h n
 appends old (shutdown m ∷ h) n = appends old h n
 appends old (gave m k ws ∷ h) n = appends old h n
-appends old (removed m ∷ h) n = cond (n == m) [] (appends old h n)
+appends old (removed m ∷ h) n = if n == m then [] else appends old h n
 appends old (nothing ∷ h) n = appends old h n
 
 -- every read gave what the append of that number in that file gave

@@ -1,5 +1,5 @@
 -- What a reservation means, and what its calls do. Assumes nothing.
-use Rattle.std.specs.Prelude.{◌≡◌, ℕ, ◌+◌, ◌-◌, Bool, cond, List, [], ◌∷◌, Ok, Err, sum, Result, nat_le, nat_lt, slice_index, slice_set}
+use Rattle.std.specs.Prelude.{◌≡◌, ℕ, ◌+◌, ◌-◌, Bool, if◌then◌else◌, List, [], ◌∷◌, Ok, Err, sum, Result, nat_le, nat_lt, slice_index, slice_set}
 use Rattle.refusal.specs.declared.Refusal.{Refusal}
 use Rattle.refusal.specs.declared.Refusal.TheVariants.{Range}
 use Rattle.resources.specs.declared.ceiling.Ceiling.{Ceiling}
@@ -16,11 +16,11 @@ pub record Standing : Type 0 where
 
 -- s moves from the headroom to what is held, if there is as much
 abbrev pub grown : Standing → ℕ → Standing
-grown m s = cond (nat_le s m.headroom) (record { held = m.held + s; headroom = m.headroom - s }) m
+grown m s = if nat_le s m.headroom then record { held = m.held + s; headroom = m.headroom - s } else m
 
 -- s moves back, if as much is held
 abbrev pub shrunk : Standing → ℕ → Standing
-shrunk m s = cond (nat_le s m.held) (record { held = m.held - s; headroom = m.headroom + s }) m
+shrunk m s = if nat_le s m.held then record { held = m.held - s; headroom = m.headroom + s } else m
 
 -- what is left below the limit is the headroom
 abbrev pub ceiling_standing : Ceiling → Standing
@@ -61,13 +61,14 @@ pub record TenantMoved (t : Tenants) (i : ℕ) (m : Standing) (u : Tenants) : Ty
 
 -- the answer to a tenant's call; a tenant that is not there is refused
 abbrev pub tenant_answer : Tenants → TenantChange → Result Bool Refusal
-tenant_answer t c = cond (nat_lt c.tenant 16) (Ok (granted (tenant_standing t c.tenant) c.change)) (Err Range)
+tenant_answer t c = if nat_lt c.tenant 16 then Ok (granted (tenant_standing t c.tenant) c.change) else Err Range
 
 -- what the tenants hold after one call, under a common limit; a tenant that is not there changes nothing
 abbrev pub tenant_change : ℕ → List ℕ → TenantChange → List ℕ
-tenant_change limit held c = cond (nat_lt c.tenant 16)
-    (slice_set held c.tenant (change (record { held = slice_index held c.tenant; headroom = limit - sum held }) c.change).held)
-    held
+tenant_change limit held c =
+    if nat_lt c.tenant 16
+    then slice_set held c.tenant (change (record { held = slice_index held c.tenant; headroom = limit - sum held }) c.change).held
+    else held
 
 -- and after a list of calls
 abbrev pub tenant_changes : ℕ → List ℕ → List TenantChange → List ℕ

@@ -53,14 +53,14 @@ pub fn perform<S: Store>(store: &mut S, call: Call) -> Result<Answer, Cause>
 
 // Makes the calls in their order, and writes their answers, while there are places for answers; further places stay as they were.
 pub fn run<S: Store>(store: &mut S, calls: &[Call], answers: &mut [Result<Answer, Cause>])
-    ensures asked { Ran S.Store.steps store.old (take (min (length calls.now) (length answers.old)) calls.now) (take (min (length calls.now) (length answers.old)) answers.new) store.new }
-    ensures faithful { Faithful (held_by (S.Store.files store.old)) (history [] (take (min (length calls.now) (length answers.old)) calls.now) (take (min (length calls.now) (length answers.old)) answers.new)) }
-    ensures holds { (n : ℕ) → held_by (S.Store.files store.new) n ≡ appends (held_by (S.Store.files store.old)) (history [] (take (min (length calls.now) (length answers.old)) calls.now) (take (min (length calls.now) (length answers.old)) answers.new)) n }
-    ensures rest { drop (min (length calls.now) (length answers.old)) answers.new ≡ drop (min (length calls.now) (length answers.old)) answers.old }
+    ensures asked { let n = min (length calls.now) (length answers.old) in Ran S.Store.steps store.old (take n calls.now) (take n answers.new) store.new }
+    ensures faithful { let n = min (length calls.now) (length answers.old) in Faithful (held_by (S.Store.files store.old)) (history [] (take n calls.now) (take n answers.new)) }
+    ensures holds { let n = min (length calls.now) (length answers.old) in (file : ℕ) → held_by (S.Store.files store.new) file ≡ appends (held_by (S.Store.files store.old)) (history [] (take n calls.now) (take n answers.new)) file }
+    ensures rest { let n = min (length calls.now) (length answers.old) in drop n answers.new ≡ drop n answers.old }
 {
     let n = calls.len().min(answers.len());
     for (i, call) in calls[..n].iter().enumerate() {
-        // by index: of answers that are written through a zip a proof knows nothing
+        // By index: after a zip with `iter_mut` a proof knows nothing of the answers.
         answers[i] = perform(store, *call);
     }
 }

@@ -22,7 +22,8 @@ pub struct Tripping<'a, S> {
 }
 
 impl<'a, S> Tripping<'a, S> {
-    // The calls are counted from 1. More than 64 listed calls are refused, and the store is handed back: a pair with the reason, since a struct of the two would say no more.
+    // The calls are counted from 1. More than 64 listed calls are refused, and the store is handed back.
+    // It comes back in a pair with the refusal: a struct of the two would say no more.
     pub fn new(below: S, trips: &'a [u64]) -> Result<Tripping<'a, S>, (S, Refusal)>
         ensures { MatchResult result (λ t. (t.below ≡ below) × (t.trips.now ≡ trips.now) × (t.calls ≡ 0) × (length trips.now ≤ 64)) (λ e. (e.0 ≡ below) × (e.1 ≡ Range) × (64 < length trips.now)) }
     {
