@@ -23,7 +23,8 @@ ghost use Rattle.std.specs.Option.{option_map};
 use std::alloc::{AllocError, Global};
 use std::mem;
 
-// One cell of the memory: what it holds, and the cell behind it in its chain.
+// One cell of the memory: what it holds, and the cell behind it in its chain. That one is named by its number and not
+// boxed, since the memory is handed in and nothing is allocated.
 #[derive(Drop)]
 pub struct Cell<T> {
     next: usize,
@@ -47,6 +48,7 @@ pub fn memory<T: Drop>(heap: Global, n: usize) -> Result<Vec<Cell<T>>, AllocErro
     ensures { IfOk result (λ v. v.items ≡ replicate n (cell 0 None)) }
 {
     let mut cells = Vec::new(heap);
+    // `resize_with(n, Cell::new)` gets no proof yet: the result of `Cell::new` names `T`, and its arguments do not.
     for _ in 0..n {
         cells.push(Cell::new())?;
     }
@@ -135,7 +137,7 @@ fn fill<T>(cells: &mut [Cell<T>], i: usize, x: T) -> Result<(), T>
     ensures law { Filled cells.old i x cells.new result }
     ensures safe { Safe cells.new i x result }
 {
-    // Indexed, here and below: a slice's `get_mut` tells a proof nothing of the slice after the write.
+    // Indexed, here and below: a slice's `get_mut` tells a proof nothing of the elements after a write.
     if i >= cells.len() || cells[i].item.is_some() {
         return Err(x);
     }

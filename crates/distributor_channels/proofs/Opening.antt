@@ -1,8 +1,8 @@
 -- Opening, and counting. Assumes nothing.
-use Rattle.std.proofs.Common.{◌≡◌, ℕ, zero, suc, ◌<◌, ◌≤◌, true, ltb, List, [], ◌∷◌, map, length, get_or, replicate, Some, sym, refl, ap, ◌∙◌, arith}
+use Rattle.std.proofs.Common.{◌≡◌, ℕ, zero, suc, ◌<◌, ◌≤◌, true, cond, ltb, List, [], ◌∷◌, map, length, get_or, replicate, Some, sym, refl, ap, ◌∙◌, arith}
 use lib.ListN.{length-replicate}
-use Rattle.std.proofs.lemmas.List.{take-replicate}
 use Rattle.std.proofs.lemmas.Bool.{lt-ltb, le-leb, eq-eqb, and_from}
+use Rattle.std.proofs.lemmas.List.Sums.{sum_by-cons}
 use Rattle.bank.specs.Cells.{empty}
 use Rattle.bank.specs.Banks.{Keeps, size}
 use Rattle.bank.proofs.Numbering.{keeps_front, keeps_empties}
@@ -22,12 +22,11 @@ count-opened T (suc n) v h = let r = count-opened T n v h in let t : ltb 0 v ≡
 
 module _ {T : Type 0} where
   pub stands_opened : (c : Channels) (ms : Mems T) (n v : ℕ) (ch : Channel) → n ≤ 32 → 0 < v → ch ≡ record { queue = Some empty; receiving = empty; senders = v } →
-      c.n ≡ n → c.table ≡ replicate 32 ch → c.sending ≡ empty → c.count ≡ n →
+      records c ≡ replicate n ch → c.sending ≡ empty → c.count ≡ n →
       (o : Others T) → Keeps ms.entries o.waits o.waiting → Keeps ms.elements o.lines o.queued → Represents c ms o (opened n v)
   unfolding Represents
-  stands_opened c ms n v ch le pos ec en et es ect o kw kx =
+  stands_opened c ms n v ch le pos ec rs es ect o kw kx =
       let new : Chan T = record { queue = []; receiving = []; receiver = true; senders = v } in
-      let rs : records c ≡ replicate n ch = rw (en, et) (take-replicate n 32 ch le) in
       let q : line_of ch.queue ≡ empty = ap (λ (u : Channel). line_of u.queue) ec in let p : ch.receiving ≡ empty = ap (λ (u : Channel). u.receiving) ec in
       let mk : mark_of ch ≡ mark new = ap mark_of ec in
       record {
@@ -49,7 +48,7 @@ module _ {T : Type 0} where
   tally_same (r ∷ rs) (c ∷ cs) e f =
       let h = tally_same rs cs (omega arith) (λ k l. f (suc k) (omega arith)) in
       let b : record_open r ≡ is_open c = f 0 (omega arith) in
-      rw (b, h) refl
+      rw (sum_by-cons (λ x. cond (record_open x) 1 0) r rs, b, h) refl
 
   pub recounted : (c : Channels) (ms : Mems T) (n : ℕ) → n ≡ tallied (records c) → Recounts c ms n
   unfolding Represents

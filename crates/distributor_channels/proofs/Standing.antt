@@ -1,8 +1,8 @@
 -- What one changed record does to what is represented. Assumes nothing.
-use Rattle.std.proofs.Common.{◌≡◌, ℕ, zero, suc, ◌+◌, ◌<◌, ◌≤◌, Bool, true, false, cond, ◌&&◌, eqb, ltb, List, [], ◌∷◌, ◌++◌, map, length, get_or, take, set, is_some, Ok, Err, Result, sym, refl, ap, ◌∙◌, arith, length-append, length-set}
+use Rattle.std.proofs.Common.{◌≡◌, ℕ, zero, suc, ◌+◌, ◌<◌, ◌≤◌, Bool, true, false, ◌&&◌, eqb, List, [], ◌∷◌, ◌++◌, map, length, get_or, set, is_some, sym, refl, ap, ◌∙◌, arith, length-append, length-set}
 use lib.ListN.{length-map}
-use Rattle.std.proofs.lemmas.List.{set-get_or, map-set, get_or-map, get_or_append_left, set-append_left}
-use Rattle.std.proofs.lemmas.Bool.{ltb-true, ne_eqb}
+use Rattle.std.proofs.lemmas.List.{set-get_or, get_or_default, map-set, get_or-map, get_or_append_left, set-append_left}
+use Rattle.std.proofs.lemmas.Bool.{ne_eqb}
 use Rattle.refusal.specs.declared.Refusal.{Refusal}
 use Rattle.refusal.specs.declared.Refusal.TheVariants.{Lengths, Range}
 use Rattle.bank.specs.declared.Queue.{Queue}
@@ -14,14 +14,7 @@ use Rattle.distributor_channels.specs.declared.Entry.{Entry}
 use Rattle.distributor_channels.specs.declared.Channel.{Channel}
 use Rattle.distributor_channels.specs.declared.Channels.{Channels}
 use Rattle.distributor_channels.specs.Meaning.{Chan, Meaning, bit, none, is_open, open_count, shut, chan}
-use Rattle.distributor_channels.specs.Calls.{records, shut_record, line_of, record_open, Others, Mark, mark_of, mark, found, Stands}
-
--- a changed record among those in use
-pub take-set : {A : Type 0} (n : ℕ) (l : List A) (k : ℕ) (a : A) → take n (set l k a) ≡ set (take n l) k a
-take-set zero l k a = refl
-take-set (suc n) [] k a = refl
-take-set (suc n) (x ∷ xs) zero a = refl
-take-set (suc n) (x ∷ xs) (suc k) a = ap (λ ys. x ∷ ys) (take-set n xs k a)
+use Rattle.distributor_channels.specs.Calls.{records, shut_record, line_of, record_open, Others, Mark, mark_of, mark, Stands}
 
 -- one of the lists in front, and those behind
 module _ {A B : Type 0} (f : A → B) (xs : List A) (zs : List B) (k : ℕ) (h : k < length xs) where
@@ -152,20 +145,14 @@ pub record Found (c : Channels) (ok : Bool) (k : ℕ) (ch : Channel) : Type 0 wh
   pub inside : k < length (records c)
   pub is : ch ≡ get_or (records c) k shut_record
 
-found_ok : (fit within : Bool) (a ch : Channel) → ◌≡◌ {A = Result Channel Refusal} (Ok ch) (cond fit (cond within (Ok a) (Err Range)) (Err Lengths)) → (fit ≡ true) × (within ≡ true) × (ch ≡ a)
-found_ok true true a ch e = (refl, refl, cc)
-found_ok true false a ch e = let z : ◌≡◌ {A = ℕ} 0 1 = cc in absurd (omega arith)
-found_ok false w a ch e = let z : ◌≡◌ {A = ℕ} 0 1 = cc in absurd (omega arith)
+pub found_here : (c : Channels) (fit : Bool) (k : ℕ) (ch : Channel) → fit ≡ true → k < length (records c) → ch ≡ get_or (records c) k ch → Found c fit k ch
+found_here c fit k ch f i e = record { fit = f; inside = i; is = e ∙ get_or_default (records c) k ch shut_record i }
 
-pub found_is : (c : Channels) (fit : Bool) (k : ℕ) (ch : Channel) → Ok ch ≡ found fit (records c) k → Found c fit k ch
-found_is c fit k ch e =
-    let p = found_ok fit (ltb k (length (records c))) (get_or (records c) k shut_record) ch e in
-    record { fit = p.0; inside = ltb-true _ _ p.1; is = p.2 }
+-- its record was written as it was
+pub unwritten : (c : Channels) (fit : Bool) (k : ℕ) (ch r : Channel) → Found c fit k ch → r ≡ ch → set (records c) k r ≡ records c
+unwritten c fit k ch r fd e = ap (λ (u : Channel). set (records c) k u) (e ∙ fd.is) ∙ set-get_or (records c) k shut_record
 
--- a call that is not found is refused, of the smaller number first
-pub found_err : {T : Type 0} (fit within : Bool) (a : Channel) (b : Chan T) (why : Refusal) →
-    ◌≡◌ {A = Result Channel Refusal} (Err why) (cond fit (cond within (Ok a) (Err Range)) (Err Lengths)) →
-    (◌≡◌ {A = Result (Chan T) Refusal} (cond fit (cond within (Ok b) (Err Range)) (Err Lengths)) (Err why)) × (fit ≡ false → why ≡ Lengths)
-found_err true true a b why e = let z : ◌≡◌ {A = ℕ} 0 1 = cc in absurd (omega arith)
-found_err true false a b why e = (sym (cc), λ z. let u : ◌≡◌ {A = ℕ} 0 1 = cc in absurd (omega arith))
-found_err false w a b why e = (sym (cc), λ _. cc)
+-- the channel called was not found, and why: the smaller number comes first
+pub data Lost (c : Channels) (fit : Bool) (k : ℕ) : Refusal → Type 0 where
+  unfit : fit ≡ false → Lost c fit k Lengths
+  beyond : fit ≡ true → (k < length (records c) → ⊥) → Lost c fit k Range

@@ -1,5 +1,5 @@
 -- What ties channels and memories to their meaning, and what the calls promise. Assumes nothing.
-use Rattle.std.specs.Prelude.{◌≡◌, ℕ, ◌+◌, ◌≤◌, Bool, true, false, cond, ◌&&◌, ◌||◌, List, [], ◌∷◌, ◌++◌, map, length, take, is_some, is_ok, Some, None, Ok, Err, Option, Result, MatchResult, ◌==◌, nat_le, nat_lt, slice_index_or}
+use Rattle.std.specs.Prelude.{◌≡◌, ℕ, ◌≤◌, Bool, true, false, cond, ◌&&◌, ◌||◌, List, ◌∷◌, ◌++◌, map, length, count_by, is_some, is_ok, Some, None, Ok, Err, Option, Result, MatchResult, ◌==◌, nat_le, nat_lt}
 use Rattle.refusal.specs.declared.Refusal.{Refusal}
 use Rattle.refusal.specs.declared.Refusal.TheVariants.{Lengths, Range}
 use Rattle.bank.specs.declared.Queue.{Queue}
@@ -14,9 +14,9 @@ use Rattle.distributor_channels.specs.declared.SendPoll.TheVariants.{Sent, Wait,
 use Rattle.distributor_channels.specs.Steps.{SendAnswer}
 use Rattle.distributor_channels.specs.Histories.{Event, Run, Laws}
 
--- the records in use
+-- the records
 abbrev pub records : Channels → List Channel
-records c = take c.n c.table
+records c = c.table.items
 
 -- the record that stands where there is none
 abbrev pub shut_record : Channel
@@ -32,8 +32,7 @@ abbrev pub record_open : Channel → Bool
 record_open r = is_some r.queue && (nat_lt 0 r.senders && (line_of r.queue).len == 0)
 
 abbrev pub tallied : List Channel → ℕ
-tallied [] = 0
-tallied (r ∷ rs) = cond (record_open r) 1 0 + tallied rs
+tallied rs = count_by record_open rs
 
 -- the memories without the loans
 pub record Mems (T : Type 0) : Type 0 where
@@ -59,10 +58,6 @@ mark_of r = record { receiver = is_some r.queue; senders = r.senders }
 -- the lengths are those of the opening, and the woken list has room for all who could be named
 abbrev pub fits : Channels → ℕ → ℕ → ℕ → Bool
 fits c cells places woken = c.cells == cells && (c.places == places && nat_le places woken)
-
--- the record of the channel k, once lengths and range are right
-abbrev pub found : Bool → List Channel → ℕ → Result Channel Refusal
-found fit rs k = cond fit (cond (nat_lt k (length rs)) (Ok (slice_index_or rs k shut_record)) (Err Range)) (Err Lengths)
 
 -- 1 to 65,535 message cells, 1 to 4,096 waiting places, and a woken list that has room for as many
 abbrev pub within : ℕ → ℕ → ℕ → Bool
@@ -126,7 +121,7 @@ module _ {T : Type 0} where
 
   -- what no call changes
   pub record Steady (c : Channels) (ms : Mems T) (c' : Channels) (ms' : Mems T) : Type 0 where
-    pub n : c'.n ≡ c.n
+    pub n : length (records c') ≡ length (records c)
     pub places : c'.places ≡ c.places
     pub cells : c'.cells ≡ c.cells
     pub elements : size ms'.elements ≡ size ms.elements

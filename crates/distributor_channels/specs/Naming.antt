@@ -1,25 +1,15 @@
 -- Naming waiting entries, and discarding elements. Assumes nothing.
-use Rattle.std.specs.Prelude.{◌≡◌, ℕ, ◌≤◌, List, [], ◌++◌, length, take, drop, Some, None, Option, slice_set}
+use Rattle.std.specs.Prelude.{◌≡◌, ℕ, ◌≤◌, List, [], ◌++◌, length, take, drop, slice_set}
 use Rattle.bank.specs.declared.Queue.{Queue}
-use Rattle.bank.specs.Lists.{oldest, rest, list, put}
+use Rattle.bank.specs.Lists.{list, put}
 use Rattle.bank.specs.Banks.{Mem, Is, Keeps}
 use Rattle.distributor_channels.specs.declared.Entry.{Entry}
 use Rattle.distributor_channels.specs.Meaning.{wakers, onto}
 
--- a waker is written at i
-abbrev pub noted : Option Entry → ℕ → List ℕ → List ℕ
-noted None i w = w
-noted (Some e) i w = slice_set w i e.waker
-
--- the oldest entry leaves and is noted at i
-abbrev pub NamesOne : ℕ → Mem Entry → Queue → List ℕ → Mem Entry → Queue → List ℕ → Type 0
-NamesOne i m q w m' q' w' = (qs : List Queue) (xss : List (List Entry)) (k : ℕ) → Keeps m qs xss → Is qs k q →
-    Keeps m' (slice_set qs k q') (put xss k (rest (list xss k))) × (w' ≡ noted (oldest (list xss k)) i w)
-
 -- i entries have left and are named
 abbrev pub NamesSome : ℕ → Mem Entry → Queue → List ℕ → Mem Entry → Queue → List ℕ → Type 0
 NamesSome i m q w m' q' w' = (qs : List Queue) (xss : List (List Entry)) (k : ℕ) → Keeps m qs xss → Is qs k q → length (list xss k) ≤ length w →
-    Keeps m' (slice_set qs k q') (put xss k (drop i (list xss k))) × (w' ≡ wakers (take i (list xss k)) ++ drop i w)
+    (i ≤ length (list xss k)) × Keeps m' (slice_set qs k q') (put xss k (drop i (list xss k))) × (w' ≡ wakers (take i (list xss k)) ++ drop i w)
 
 -- all entries leave, in order, and are named at the front of the woken list; r is their number
 abbrev pub Names : Mem Entry → Queue → List ℕ → Mem Entry → Queue → List ℕ → ℕ → Type 0

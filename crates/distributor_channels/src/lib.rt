@@ -17,16 +17,17 @@
 // carried over to Rattle; wakers are numbers, futures are polls, drops are closes, and memory is handed in.
 #![tactic(auto)]
 
-ghost use Rattle.std.specs.Prelude.{◌≡◌, ◌+◌, ◌-◌, ◌<◌, cond, length, take, Err as Bad, slice_index_or, slice_set};
-ghost use Rattle.bank.specs.Banks.{view, size};
-ghost use Rattle.distributor_channels.specs.Calls.{records, shut_record, record_open, tallied, fits, found, seen, facts, Does, Chronicles, Kept, Unfit, Same, Steady, Opens, Recounts, within};
+ghost use Rattle.std.specs.Prelude.{◌≡◌, length, count_by, Err as Bad};
+ghost use Rattle.bank.specs.Banks.{view, SameCells};
+ghost use Rattle.distributor_channels.specs.Calls.{records, record_open, facts, seen, Does, Chronicles, Kept, Unfit, Same, Steady, Opens, Recounts, within};
 ghost use Rattle.distributor_channels.specs.Histories.{sends, receives, closes_sender, closes_receiver};
-ghost use Rattle.distributor_channels.specs.Meaning.{bit, on};
-ghost use Rattle.distributor_channels.specs.Naming.{NamesOne, Names, Empties};
+ghost use Rattle.distributor_channels.specs.Meaning.{on};
+ghost use Rattle.distributor_channels.specs.Naming.{Names, Empties};
 ghost use Rattle.distributor_channels.specs.Runs.{Runs};
 ghost use Rattle.distributor_channels.specs.Steps.{back, send_step, receive_step, close_sender_step, close_receiver_step};
 ghost use Rattle.refusal.specs.declared.Refusal.TheVariants.{Lengths};
 
+use arrayvec::ArrayVec;
 use bank::{Bank, Queue, Test};
 use refusal::Refusal;
 
@@ -40,14 +41,14 @@ const MOST_CHANNELS: usize = 32;
 const MOST_SENDERS: u32 = 32;
 
 // Who waits, and on which channel.
-#[derive(Clone, Copy)]
+#[derive(Clone, Copy, PartialEq, Eq, Debug)]
 pub struct Entry {
     pub waker: u32,
     pub channel: usize,
 }
 
-// Holds of the entries on one channel.
-#[derive(Clone, Copy)]
+// Holds of the entries on one channel. A `Test` and not a closure, as `take_out` takes no closure.
+#[derive(Clone, Copy, PartialEq, Eq, Debug)]
 pub struct OnChannel(pub usize);
 
 impl Test<Entry> for OnChannel {
@@ -59,18 +60,17 @@ impl Test<Entry> for OnChannel {
 }
 
 // One channel: its queue while its receiver is open, who waits to receive, and how many senders are open.
-#[derive(Clone, Copy)]
+#[derive(Clone, Copy, Default, PartialEq, Eq, Debug)]
 pub struct Channel {
     queue: Option<Queue>,
     receiving: Queue,
     senders: u32,
 }
 
-// The channels, the first n of the table; who waits at the gate; the open count; and the lengths of the memories at opening.
+// The channels; who waits at the gate; the open count; and the lengths of the memories at opening.
 #[derive(Drop)]
 pub struct Channels {
-    n: usize,
-    table: [Channel; 32],
+    table: ArrayVec<Channel, MOST_CHANNELS>,
     sending: Queue,
     count: usize,
     places: usize,
@@ -92,7 +92,7 @@ pub struct Memories<'a, T> {
 }
 
 // What a send poll answers. The number is that of the wakers named.
-#[derive(Drop)]
+#[derive(Drop, PartialEq, Eq, Debug)]
 pub enum SendPoll<T> {
     // the element is in the channel's queue
     Sent(usize),
@@ -103,14 +103,14 @@ pub enum SendPoll<T> {
 }
 
 // A send that was refused, with its element.
-#[derive(Drop)]
+#[derive(Drop, PartialEq, Eq, Debug)]
 pub struct Refused<T> {
     pub why: Refusal,
     pub element: T,
 }
 
 // What a receive poll answers.
-#[derive(Drop)]
+#[derive(Drop, PartialEq, Eq, Debug)]
 pub enum ReceivePoll<T> {
     // the oldest element, and how many wakers were named
     Element(T, usize),
@@ -121,141 +121,47 @@ pub enum ReceivePoll<T> {
 }
 
 impl Woken<'_> {
-    // Writes a waker at the place `i`, if there is one.
-    fn note(&mut self, i: usize, waker: u32)
-        ensures law { self.new.list.now ≡ slice_set self.old.list.now i waker }
-        ensures same { self.new.list.ghost_name ≡ self.old.list.ghost_name }
-        ensures length { length self.new.list.now ≡ length self.old.list.now }
+    // Names all entries of `q`, in order, at the front of the list, and gives their number.
+    fn name_all(&mut self, entries: &mut Bank<Entry>, q: &mut Queue) -> usize
+        ensures law { Names (view entries.old) q.old self.old.list.now (view entries.new) q.new self.new.list.now result }
+        ensures same { SameCells entries.old entries.new }
+        ensures list { (self.new.list.ghost_name ≡ self.old.list.ghost_name) × (length self.new.list.now ≡ length self.old.list.now) }
     {
-        if i < self.list.len() {
-            self.list[i] = waker;
+        let n = q.len();
+        for place in self.list.iter_mut() {
+            let Some(entry) = entries.take(q) else {
+                break;
+            };
+            *place = entry.waker;
         }
+        n
     }
-}
-
-// Names the oldest entry of `q` at the place `i` of the woken list.
-fn name_one(entries: &mut Bank<Entry>, q: &mut Queue, woken: &mut Woken, i: usize)
-    ensures law { NamesOne i (view entries.old) q.old woken.old.list.now (view entries.new) q.new woken.new.list.now }
-    ensures same { (entries.new.cells.ghost_name ≡ entries.old.cells.ghost_name) × (woken.new.list.ghost_name ≡ woken.old.list.ghost_name) }
-    ensures size { (size (view entries.new) ≡ size (view entries.old)) × (length woken.new.list.now ≡ length woken.old.list.now) }
-{
-    if let Some(entry) = entries.take(q) {
-        woken.note(i, entry.waker);
-    }
-}
-
-// Names all entries of `q`, in order, at the front of the woken list, and gives their number.
-fn name_all(entries: &mut Bank<Entry>, q: &mut Queue, woken: &mut Woken) -> usize
-    ensures law { Names (view entries.old) q.old woken.old.list.now (view entries.new) q.new woken.new.list.now result }
-    ensures same { (entries.new.cells.ghost_name ≡ entries.old.cells.ghost_name) × (woken.new.list.ghost_name ≡ woken.old.list.ghost_name) }
-    ensures size { (size (view entries.new) ≡ size (view entries.old)) × (length woken.new.list.now ≡ length woken.old.list.now) }
-{
-    let n = q.len();
-    for i in 0..n {
-        name_one(entries, q, woken, i);
-    }
-    n
 }
 
 // Lets the elements of `q` go.
 fn discard<T: Drop>(elements: &mut Bank<T>, q: &mut Queue)
     ensures law { Empties (view elements.old) q.old (view elements.new) q.new }
-    ensures same { elements.new.cells.ghost_name ≡ elements.old.cells.ghost_name }
-    ensures size { size (view elements.new) ≡ size (view elements.old) }
+    ensures same { SameCells elements.old elements.new }
 {
-    let n = q.len();
-    for _ in 0..n {
+    for _ in 0..q.len() {
         let _ = elements.take(q);
     }
 }
 
-// The record `k` of the first `n`, or one that is shut.
-fn record_at(table: &[Channel], n: usize, k: usize) -> Channel
-    ensures { result ≡ slice_index_or (take n table.now) k shut_record }
-{
-    if k < n && k < table.len() {
-        table[k]
-    } else {
-        Channel {
-            queue: None,
-            receiving: Queue::new(),
-            senders: 0,
-        }
+impl Channel {
+    // Does it count as open: an open receiver, an open sender and an empty queue?
+    fn is_open(&self) -> bool
+        ensures { result ≡ record_open self.now }
+    {
+        self.senders > 0 && self.queue.is_some_and(|q| q.len() == 0)
     }
-}
-
-// Writes the record `k`, if it is there.
-fn write_at(table: &mut [Channel], k: usize, channel: Channel)
-    ensures { table.new ≡ slice_set table.old k channel }
-{
-    if k < table.len() {
-        table[k] = channel;
-    }
-}
-
-// How many records are in use.
-fn in_use(table: &[Channel], n: usize) -> usize
-    ensures { result ≡ length (take n table.now) }
-{
-    if n < table.len() { n } else { table.len() }
-}
-
-// The records in use.
-fn first_of(table: &[Channel], n: usize) -> &[Channel]
-    ensures { result.now ≡ take n table.now }
-{
-    if n < table.len() { &table[0..n] } else { table }
-}
-
-// Does the channel count as open: an open receiver, an open sender and an empty queue?
-fn is_open(channel: &Channel) -> bool
-    ensures { result ≡ record_open channel.now }
-{
-    match channel.queue {
-        Some(q) => channel.senders > 0 && q.len() == 0,
-        None => false,
-    }
-}
-
-// How many of these channels count as open.
-fn tally(table: &[Channel]) -> usize
-    ensures { result ≡ tallied table.now }
-{
-    let mut count = 0;
-    for channel in table {
-        if is_open(channel) {
-            count += 1;
-        }
-    }
-    count
-}
-
-// One less where the channel counted, but for 0.
-fn less(n: usize, counted: bool) -> usize
-    ensures { result ≡ n - bit counted }
-{
-    if counted && n > 0 { n - 1 } else { n }
-}
-
-// One more, up to the number of channels there can be.
-fn more(n: usize) -> usize
-    ensures { n < 32 → result ≡ n + 1 }
-{
-    if n < MOST_CHANNELS { n + 1 } else { n }
-}
-
-// One sender less, but for 0.
-fn fewer(n: u32) -> u32
-    ensures { result ≡ n - 1 }
-{
-    if n == 0 { 0 } else { n - 1 }
 }
 
 // Are these lengths within their limits, and has the woken list room for all who could be named?
 fn within_limits(cells: usize, places: usize, woken: usize) -> bool
     ensures { result ≡ within cells places woken }
 {
-    1 <= cells && cells <= MOST_CELLS && 1 <= places && places <= MOST_PLACES && places <= woken
+    (1..=MOST_CELLS).contains(&cells) && (1..=MOST_PLACES).contains(&places) && places <= woken
 }
 
 impl Channels {
@@ -268,7 +174,7 @@ impl Channels {
         if !within_limits(cells, places, memories.woken.list.len()) {
             return Err(Refusal::Lengths);
         }
-        if n > MOST_CHANNELS || senders < 1 || senders > MOST_SENDERS {
+        if n > MOST_CHANNELS || !(1..=MOST_SENDERS).contains(&senders) {
             return Err(Refusal::Range);
         }
         let channel = Channel {
@@ -276,9 +182,10 @@ impl Channels {
             receiving: Queue::new(),
             senders,
         };
+        let mut table = ArrayVec::from([channel; MOST_CHANNELS]);
+        table.truncate(n);
         Ok(Channels {
-            n,
-            table: [channel; 32],
+            table,
             sending: Queue::new(),
             count: n,
             places,
@@ -291,7 +198,10 @@ impl Channels {
     pub fn recount<T>(&self, memories: &Memories<T>) -> usize
         ensures { Recounts self.now (seen memories.now) result }
     {
-        tally(first_of(&self.table, self.n))
+        self.table
+            .iter()
+            .filter(|channel| channel.is_open())
+            .count()
     }
 
     // Are the memories as long as they were, and the woken list long enough?
@@ -302,19 +212,6 @@ impl Channels {
         self.cells == memories.elements.size()
             && self.places == places
             && places <= memories.woken.list.len()
-    }
-
-    // The record of `channel`, once lengths and range are right.
-    fn find<T>(&self, memories: &Memories<T>, channel: usize) -> Result<Channel, Refusal>
-        ensures { result ≡ found (facts self.now (seen memories.now)).fit (records self.now) channel }
-    {
-        if !self.fit(memories) {
-            return Err(Refusal::Lengths);
-        }
-        if channel >= in_use(&self.table, self.n) {
-            return Err(Refusal::Range);
-        }
-        Ok(record_at(&self.table, self.n, channel))
     }
 
     // Polls the send of `element` on `channel`; who has to wait leaves `waker`.
@@ -332,15 +229,19 @@ impl Channels {
         ensures same { Same memories.old memories.new }
         ensures steady { Steady self.old (seen memories.old) self.new (seen memories.new) }
     {
-        let mut record = match self.find(memories, channel) {
-            Ok(record) => record,
-            Err(why) => return Err(Refused { why, element }),
+        if !self.fit(memories) {
+            let why = Refusal::Lengths;
+            return Err(Refused { why, element });
+        }
+        let Some(record) = self.table.get_mut(channel) else {
+            let why = Refusal::Range;
+            return Err(Refused { why, element });
         };
         if record.senders == 0 {
             let why = Refusal::Closed;
             return Err(Refused { why, element });
         }
-        let Some(mut queue) = record.queue else {
+        let Some(queue) = &mut record.queue else {
             return Ok(SendPoll::Closed(element));
         };
         if self.count == 0 {
@@ -352,22 +253,17 @@ impl Channels {
             };
         }
         let was_empty = queue.len() == 0;
-        if let Err(element) = memories.elements.add(&mut queue, element) {
+        if let Err(element) = memories.elements.add(queue, element) {
             let why = Refusal::Cells;
             return Err(Refused { why, element });
         }
-        record.queue = Some(queue);
         if !was_empty {
-            write_at(&mut self.table, channel, record);
             return Ok(SendPoll::Sent(0));
         }
-        let named = name_all(
-            &mut memories.entries,
-            &mut record.receiving,
-            &mut memories.woken,
-        );
-        self.count = less(self.count, true);
-        write_at(&mut self.table, channel, record);
+        self.count = self.count.saturating_sub(1);
+        let named = memories
+            .woken
+            .name_all(&mut memories.entries, &mut record.receiving);
         Ok(SendPoll::Sent(named))
     }
 
@@ -384,39 +280,36 @@ impl Channels {
         ensures same { Same memories.old memories.new }
         ensures steady { Steady self.old (seen memories.old) self.new (seen memories.new) }
     {
-        let mut record = self.find(memories, channel)?;
-        let Some(mut queue) = record.queue else {
+        if !self.fit(memories) {
+            return Err(Refusal::Lengths);
+        }
+        let Some(record) = self.table.get_mut(channel) else {
+            return Err(Refusal::Range);
+        };
+        let Some(queue) = &mut record.queue else {
             return Err(Refusal::Closed);
         };
-        let Some(element) = memories.elements.take(&mut queue) else {
+        let Some(element) = memories.elements.take(queue) else {
             if record.senders == 0 {
                 return Ok(ReceivePoll::End);
             }
-            if memories
-                .entries
-                .add(&mut record.receiving, Entry { waker, channel })
-                .is_err()
-            {
-                return Err(Refusal::Places);
-            }
-            write_at(&mut self.table, channel, record);
-            return Ok(ReceivePoll::Wait);
+            let entry = Entry { waker, channel };
+            return match memories.entries.add(&mut record.receiving, entry) {
+                Ok(()) => Ok(ReceivePoll::Wait),
+                Err(_) => Err(Refusal::Places),
+            };
         };
-        record.queue = Some(queue);
-        write_at(&mut self.table, channel, record);
-        if !is_open(&record) {
+        if !record.is_open() {
             return Ok(ReceivePoll::Element(element, 0));
         }
         let was_shut = self.count == 0;
-        self.count = more(self.count);
+        self.count = self.count.saturating_add(1);
         if !was_shut {
             return Ok(ReceivePoll::Element(element, 0));
         }
-        let named = name_all(
-            &mut memories.entries,
-            &mut self.sending,
-            &mut memories.woken,
-        );
+        let named = memories
+            .woken
+            .name_all(&mut memories.entries, &mut self.sending);
         Ok(ReceivePoll::Element(element, named))
     }
 
@@ -432,24 +325,26 @@ impl Channels {
         ensures same { Same memories.old memories.new }
         ensures steady { Steady self.old (seen memories.old) self.new (seen memories.new) }
     {
-        let mut record = self.find(memories, channel)?;
+        if !self.fit(memories) {
+            return Err(Refusal::Lengths);
+        }
+        let Some(record) = self.table.get_mut(channel) else {
+            return Err(Refusal::Range);
+        };
         if record.senders == 0 {
             return Err(Refusal::Closed);
         }
         if record.senders > 1 {
-            record.senders = fewer(record.senders);
-            write_at(&mut self.table, channel, record);
+            record.senders -= 1;
             return Ok(0);
         }
-        self.count = less(self.count, is_open(&record));
-        let named = name_all(
-            &mut memories.entries,
-            &mut record.receiving,
-            &mut memories.woken,
-        );
+        self.count = self.count.saturating_sub(usize::from(record.is_open()));
         record.senders = 0;
-        write_at(&mut self.table, channel, record);
-        Ok(named)
+        Ok(
+            memories
+                .woken
+                .name_all(&mut memories.entries, &mut record.receiving),
+        )
     }
 
     // Closes the receiver of `channel`: what is queued is let go, and who waits at the gate for this channel is named.
@@ -464,23 +359,26 @@ impl Channels {
         ensures same { Same memories.old memories.new }
         ensures steady { Steady self.old (seen memories.old) self.new (seen memories.new) }
     {
-        let mut record = self.find(memories, channel)?;
-        let Some(mut queue) = record.queue else {
+        if !self.fit(memories) {
+            return Err(Refusal::Lengths);
+        }
+        let Some(record) = self.table.get_mut(channel) else {
+            return Err(Refusal::Range);
+        };
+        let was_open = record.is_open();
+        let Some(mut queue) = record.queue.take() else {
             return Err(Refusal::Closed);
         };
-        self.count = less(self.count, is_open(&record));
+        self.count = self.count.saturating_sub(usize::from(was_open));
         discard(&mut memories.elements, &mut queue);
         let mut gone = memories
             .entries
             .take_out(&mut self.sending, &OnChannel(channel));
-        let named = name_all(&mut memories.entries, &mut gone, &mut memories.woken);
-        record.queue = None;
-        write_at(&mut self.table, channel, record);
-        Ok(named)
+        Ok(memories.woken.name_all(&mut memories.entries, &mut gone))
     }
 }
 
-// The worked runs.
+// The worked runs: the contract is all that it says, and 0 stands for nothing.
 pub fn runs_stand() -> u8
     ensures { Runs }
 {

@@ -3,48 +3,14 @@ use super::*;
 use bank::Cell;
 use std::test::Fail;
 
-// What a send poll answers, to be compared.
-#[derive(Clone, Copy, PartialEq, Eq, Debug)]
-enum Send {
-    Sent(usize),
-    Wait(u32),
-    Closed(u32),
-    Refused(Refusal, u32),
+// Why an opening is refused, if it is.
+fn opening(memories: &Memories<u32>, n: usize, senders: u32) -> Option<Refusal> {
+    Channels::open(memories, n, senders).err()
 }
 
-// What a receive poll answers, to be compared.
-#[derive(Clone, Copy, PartialEq, Eq, Debug)]
-enum Receive {
-    Element(u32, usize),
-    Wait,
-    End,
-    Refused(Refusal),
-}
-
-fn sent(answer: Result<SendPoll<u32>, Refused<u32>>) -> Send {
-    match answer {
-        Ok(SendPoll::Sent(named)) => Send::Sent(named),
-        Ok(SendPoll::Wait(element)) => Send::Wait(element),
-        Ok(SendPoll::Closed(element)) => Send::Closed(element),
-        Err(Refused { why, element }) => Send::Refused(why, element),
-    }
-}
-
-fn received(answer: Result<ReceivePoll<u32>, Refusal>) -> Receive {
-    match answer {
-        Ok(ReceivePoll::Element(element, named)) => Receive::Element(element, named),
-        Ok(ReceivePoll::Wait) => Receive::Wait,
-        Ok(ReceivePoll::End) => Receive::End,
-        Err(why) => Receive::Refused(why),
-    }
-}
-
-// The number of the refusal, and 0 where there is none.
-fn opening(memories: &Memories<u32>, n: usize, senders: u32) -> u8 {
-    match Channels::open(memories, n, senders) {
-        Ok(_) => 0,
-        Err(why) => why.number(),
-    }
+// A send that is refused.
+fn refused(why: Refusal, element: u32) -> Result<SendPoll<u32>, Refused<u32>> {
+    Err(Refused { why, element })
 }
 
 // Four cells to make a memory of.
@@ -76,20 +42,20 @@ fn gate(rt: HostRuntime) -> Result<(), Fail> {
     let mut list = [0; 4];
     let mut ms = memories(&mut cells, &mut places, &mut list);
     let mut ch = Channels::open(&ms, 2, 1)?;
-    assert_eq!(rt; sent(ch.send_poll(&mut ms, 0, 1, 10)), Send::Sent(0));
+    assert_eq!(rt; ch.send_poll(&mut ms, 0, 1, 10), Ok(SendPoll::Sent(0)));
     assert_eq!(rt; (ch.recount(&ms), ch.count), (1, 1));
-    assert_eq!(rt; sent(ch.send_poll(&mut ms, 0, 1, 11)), Send::Sent(0));
+    assert_eq!(rt; ch.send_poll(&mut ms, 0, 1, 11), Ok(SendPoll::Sent(0)));
     assert_eq!(rt; (ch.recount(&ms), ch.count), (1, 1));
-    assert_eq!(rt; sent(ch.send_poll(&mut ms, 1, 1, 12)), Send::Sent(0));
+    assert_eq!(rt; ch.send_poll(&mut ms, 1, 1, 12), Ok(SendPoll::Sent(0)));
     assert_eq!(rt; (ch.recount(&ms), ch.count), (0, 0));
-    assert_eq!(rt; sent(ch.send_poll(&mut ms, 0, 7, 13)), Send::Wait(13));
+    assert_eq!(rt; ch.send_poll(&mut ms, 0, 7, 13), Ok(SendPoll::Wait(13)));
     assert_eq!(rt;
-        received(ch.receive_poll(&mut ms, 0, 9)),
-        Receive::Element(10, 0)
+        ch.receive_poll(&mut ms, 0, 9),
+        Ok(ReceivePoll::Element(10, 0))
     );
     assert_eq!(rt;
-        received(ch.receive_poll(&mut ms, 0, 9)),
-        Receive::Element(11, 1)
+        ch.receive_poll(&mut ms, 0, 9),
+        Ok(ReceivePoll::Element(11, 1))
     );
     assert_eq!(rt; front(&ms), (Some(7), Some(0)));
     assert_eq!(rt; (ch.recount(&ms), ch.count), (1, 1));
@@ -131,16 +97,16 @@ fn drained(rt: HostRuntime) -> Result<(), Fail> {
     let mut list = [0; 4];
     let mut ms = memories(&mut cells, &mut places, &mut list);
     let mut ch = Channels::open(&ms, 2, 1)?;
-    assert_eq!(rt; sent(ch.send_poll(&mut ms, 0, 1, 10)), Send::Sent(0));
-    assert_eq!(rt; sent(ch.send_poll(&mut ms, 1, 1, 11)), Send::Sent(0));
+    assert_eq!(rt; ch.send_poll(&mut ms, 0, 1, 10), Ok(SendPoll::Sent(0)));
+    assert_eq!(rt; ch.send_poll(&mut ms, 1, 1, 11), Ok(SendPoll::Sent(0)));
     assert_eq!(rt; ch.close_sender(&mut ms, 0), Ok(0));
     assert_eq!(rt;
-        received(ch.receive_poll(&mut ms, 0, 9)),
-        Receive::Element(10, 0)
+        ch.receive_poll(&mut ms, 0, 9),
+        Ok(ReceivePoll::Element(10, 0))
     );
     assert_eq!(rt; (ch.recount(&ms), ch.count), (0, 0));
-    assert_eq!(rt; sent(ch.send_poll(&mut ms, 1, 5, 12)), Send::Wait(12));
-    assert_eq!(rt; received(ch.receive_poll(&mut ms, 0, 9)), Receive::End);
+    assert_eq!(rt; ch.send_poll(&mut ms, 1, 5, 12), Ok(SendPoll::Wait(12)));
+    assert_eq!(rt; ch.receive_poll(&mut ms, 0, 9), Ok(ReceivePoll::End));
     Ok(())
 }
 
@@ -151,15 +117,15 @@ fn closing_names_its_own(rt: HostRuntime) -> Result<(), Fail> {
     let mut list = [0; 4];
     let mut ms = memories(&mut cells, &mut places, &mut list);
     let mut ch = Channels::open(&ms, 2, 1)?;
-    assert_eq!(rt; sent(ch.send_poll(&mut ms, 0, 1, 10)), Send::Sent(0));
-    assert_eq!(rt; sent(ch.send_poll(&mut ms, 1, 1, 11)), Send::Sent(0));
-    assert_eq!(rt; sent(ch.send_poll(&mut ms, 0, 7, 12)), Send::Wait(12));
-    assert_eq!(rt; sent(ch.send_poll(&mut ms, 1, 8, 13)), Send::Wait(13));
+    assert_eq!(rt; ch.send_poll(&mut ms, 0, 1, 10), Ok(SendPoll::Sent(0)));
+    assert_eq!(rt; ch.send_poll(&mut ms, 1, 1, 11), Ok(SendPoll::Sent(0)));
+    assert_eq!(rt; ch.send_poll(&mut ms, 0, 7, 12), Ok(SendPoll::Wait(12)));
+    assert_eq!(rt; ch.send_poll(&mut ms, 1, 8, 13), Ok(SendPoll::Wait(13)));
     assert_eq!(rt; ch.close_receiver(&mut ms, 0), Ok(1));
     assert_eq!(rt; front(&ms), (Some(7), Some(0)));
     assert_eq!(rt;
-        received(ch.receive_poll(&mut ms, 1, 9)),
-        Receive::Element(11, 1)
+        ch.receive_poll(&mut ms, 1, 9),
+        Ok(ReceivePoll::Element(11, 1))
     );
     assert_eq!(rt; front(&ms), (Some(8), Some(0)));
     assert_eq!(rt; ms.elements.free(), 4);
@@ -175,8 +141,8 @@ fn no_channels(rt: HostRuntime) -> Result<(), Fail> {
     let mut ch = Channels::open(&ms, 0, 1)?;
     assert_eq!(rt; (ch.recount(&ms), ch.count), (0, 0));
     assert_eq!(rt;
-        sent(ch.send_poll(&mut ms, 0, 1, 10)),
-        Send::Refused(Refusal::Range, 10)
+        ch.send_poll(&mut ms, 0, 1, 10),
+        refused(Refusal::Range, 10)
     );
     Ok(())
 }
@@ -187,10 +153,19 @@ fn how_many_channels_and_senders(rt: HostRuntime) {
     let mut places = four();
     let mut list = [0; 4];
     let ms = memories(&mut cells, &mut places, &mut list);
-    assert_eq!(rt; (opening(&ms, 0, 1), opening(&ms, 1, 1)), (0, 0));
-    assert_eq!(rt; (opening(&ms, 32, 1), opening(&ms, 33, 1)), (0, 2));
-    assert_eq!(rt; (opening(&ms, 1, 0), opening(&ms, 1, 1)), (2, 0));
-    assert_eq!(rt; (opening(&ms, 1, 32), opening(&ms, 1, 33)), (0, 2));
+    assert_eq!(rt; (opening(&ms, 0, 1), opening(&ms, 1, 1)), (None, None));
+    assert_eq!(rt;
+        (opening(&ms, 32, 1), opening(&ms, 33, 1)),
+        (None, Some(Refusal::Range))
+    );
+    assert_eq!(rt;
+        (opening(&ms, 1, 0), opening(&ms, 1, 1)),
+        (Some(Refusal::Range), None)
+    );
+    assert_eq!(rt;
+        (opening(&ms, 1, 32), opening(&ms, 1, 33)),
+        (None, Some(Refusal::Range))
+    );
 }
 
 #[test]
@@ -200,9 +175,12 @@ fn lengths_at_opening(rt: HostRuntime) {
     let mut list = [0; 3];
     let ms = memories(&mut cells, &mut places, &mut list);
     // the woken list is one too short; that comes before a number out of range
-    assert_eq!(rt; (opening(&ms, 2, 1), opening(&ms, 33, 0)), (1, 1));
+    assert_eq!(rt;
+        (opening(&ms, 2, 1), opening(&ms, 33, 0)),
+        (Some(Refusal::Lengths), Some(Refusal::Lengths))
+    );
     let none = memories(&mut [], &mut [], &mut []);
-    assert_eq!(rt; opening(&none, 2, 1), 1);
+    assert_eq!(rt; opening(&none, 2, 1), Some(Refusal::Lengths));
     assert!(rt; within_limits(1, 1, 1) && within_limits(65535, 4096, 4096));
     assert!(rt; !within_limits(0, 1, 1) && !within_limits(1, 0, 1));
     assert!(rt; !within_limits(65536, 1, 1) && !within_limits(1, 4097, 4097));
@@ -221,13 +199,10 @@ fn lengths_later(rt: HostRuntime) -> Result<(), Fail> {
     let mut long = [0; 4];
     let mut other = memories(&mut more, &mut same, &mut long);
     assert_eq!(rt;
-        sent(ch.send_poll(&mut other, 9, 1, 10)),
-        Send::Refused(Refusal::Lengths, 10)
+        ch.send_poll(&mut other, 9, 1, 10),
+        refused(Refusal::Lengths, 10)
     );
-    assert_eq!(rt;
-        received(ch.receive_poll(&mut other, 9, 1)),
-        Receive::Refused(Refusal::Lengths)
-    );
+    assert_eq!(rt; ch.receive_poll(&mut other, 9, 1), Err(Refusal::Lengths));
     assert_eq!(rt; ch.close_sender(&mut other, 9), Err(Refusal::Lengths));
     assert_eq!(rt; ch.close_receiver(&mut other, 9), Err(Refusal::Lengths));
     Ok(())
@@ -252,8 +227,8 @@ fn a_woken_list_too_short_later(rt: HostRuntime) -> Result<(), Fail> {
         woken: Woken { list: &mut short },
     };
     assert_eq!(rt;
-        sent(ch.send_poll(&mut ms, 0, 1, 10)),
-        Send::Refused(Refusal::Lengths, 10)
+        ch.send_poll(&mut ms, 0, 1, 10),
+        refused(Refusal::Lengths, 10)
     );
     Ok(())
 }
@@ -266,16 +241,13 @@ fn out_of_range(rt: HostRuntime) -> Result<(), Fail> {
     let mut ms = memories(&mut cells, &mut places, &mut list);
     let mut ch = Channels::open(&ms, 2, 1)?;
     assert_eq!(rt;
-        sent(ch.send_poll(&mut ms, 2, 1, 10)),
-        Send::Refused(Refusal::Range, 10)
+        ch.send_poll(&mut ms, 2, 1, 10),
+        refused(Refusal::Range, 10)
     );
-    assert_eq!(rt;
-        received(ch.receive_poll(&mut ms, 2, 1)),
-        Receive::Refused(Refusal::Range)
-    );
+    assert_eq!(rt; ch.receive_poll(&mut ms, 2, 1), Err(Refusal::Range));
     assert_eq!(rt; ch.close_sender(&mut ms, 2), Err(Refusal::Range));
     assert_eq!(rt; ch.close_receiver(&mut ms, 2), Err(Refusal::Range));
-    assert_eq!(rt; sent(ch.send_poll(&mut ms, 1, 1, 10)), Send::Sent(0));
+    assert_eq!(rt; ch.send_poll(&mut ms, 1, 1, 10), Ok(SendPoll::Sent(0)));
     Ok(())
 }
 
@@ -287,16 +259,13 @@ fn closed_sides(rt: HostRuntime) -> Result<(), Fail> {
     let mut ms = memories(&mut cells, &mut places, &mut list);
     let mut ch = Channels::open(&ms, 2, 1)?;
     assert_eq!(rt; ch.close_receiver(&mut ms, 0), Ok(0));
-    assert_eq!(rt; sent(ch.send_poll(&mut ms, 0, 1, 10)), Send::Closed(10));
-    assert_eq!(rt;
-        received(ch.receive_poll(&mut ms, 0, 1)),
-        Receive::Refused(Refusal::Closed)
-    );
+    assert_eq!(rt; ch.send_poll(&mut ms, 0, 1, 10), Ok(SendPoll::Closed(10)));
+    assert_eq!(rt; ch.receive_poll(&mut ms, 0, 1), Err(Refusal::Closed));
     assert_eq!(rt; ch.close_receiver(&mut ms, 0), Err(Refusal::Closed));
     assert_eq!(rt; ch.close_sender(&mut ms, 0), Ok(0));
     assert_eq!(rt;
-        sent(ch.send_poll(&mut ms, 0, 1, 10)),
-        Send::Refused(Refusal::Closed, 10)
+        ch.send_poll(&mut ms, 0, 1, 10),
+        refused(Refusal::Closed, 10)
     );
     assert_eq!(rt; ch.close_sender(&mut ms, 0), Err(Refusal::Closed));
     Ok(())
@@ -309,13 +278,13 @@ fn the_last_sender_counts(rt: HostRuntime) -> Result<(), Fail> {
     let mut list = [0; 4];
     let mut ms = memories(&mut cells, &mut places, &mut list);
     let mut ch = Channels::open(&ms, 1, 2)?;
-    assert_eq!(rt; received(ch.receive_poll(&mut ms, 0, 5)), Receive::Wait);
+    assert_eq!(rt; ch.receive_poll(&mut ms, 0, 5), Ok(ReceivePoll::Wait));
     assert_eq!(rt; ch.close_sender(&mut ms, 0), Ok(0));
     assert_eq!(rt; (ch.recount(&ms), ch.count), (1, 1));
     assert_eq!(rt; ch.close_sender(&mut ms, 0), Ok(1));
     assert_eq!(rt; front(&ms), (Some(5), Some(0)));
     assert_eq!(rt; (ch.recount(&ms), ch.count), (0, 0));
-    assert_eq!(rt; received(ch.receive_poll(&mut ms, 0, 5)), Receive::End);
+    assert_eq!(rt; ch.receive_poll(&mut ms, 0, 5), Ok(ReceivePoll::End));
     Ok(())
 }
 
@@ -326,16 +295,16 @@ fn the_last_cell(rt: HostRuntime) -> Result<(), Fail> {
     let mut list = [0; 4];
     let mut ms = memories(&mut cells, &mut places, &mut list);
     let mut ch = Channels::open(&ms, 2, 1)?;
-    assert_eq!(rt; sent(ch.send_poll(&mut ms, 0, 1, 10)), Send::Sent(0));
+    assert_eq!(rt; ch.send_poll(&mut ms, 0, 1, 10), Ok(SendPoll::Sent(0)));
     assert_eq!(rt;
-        sent(ch.send_poll(&mut ms, 0, 1, 11)),
-        Send::Refused(Refusal::Cells, 11)
+        ch.send_poll(&mut ms, 0, 1, 11),
+        refused(Refusal::Cells, 11)
     );
     assert_eq!(rt;
-        received(ch.receive_poll(&mut ms, 0, 9)),
-        Receive::Element(10, 0)
+        ch.receive_poll(&mut ms, 0, 9),
+        Ok(ReceivePoll::Element(10, 0))
     );
-    assert_eq!(rt; sent(ch.send_poll(&mut ms, 0, 1, 11)), Send::Sent(0));
+    assert_eq!(rt; ch.send_poll(&mut ms, 0, 1, 11), Ok(SendPoll::Sent(0)));
     Ok(())
 }
 
@@ -347,9 +316,9 @@ fn the_gate_comes_before_the_cells(rt: HostRuntime) -> Result<(), Fail> {
     let mut list = [0; 4];
     let mut ms = memories(&mut cells, &mut places, &mut list);
     let mut ch = Channels::open(&ms, 1, 1)?;
-    assert_eq!(rt; sent(ch.send_poll(&mut ms, 0, 1, 10)), Send::Sent(0));
+    assert_eq!(rt; ch.send_poll(&mut ms, 0, 1, 10), Ok(SendPoll::Sent(0)));
     assert_eq!(rt; (ch.count, ms.elements.free()), (0, 0));
-    assert_eq!(rt; sent(ch.send_poll(&mut ms, 0, 7, 11)), Send::Wait(11));
+    assert_eq!(rt; ch.send_poll(&mut ms, 0, 7, 11), Ok(SendPoll::Wait(11)));
     Ok(())
 }
 
@@ -360,17 +329,14 @@ fn the_last_waiting_place(rt: HostRuntime) -> Result<(), Fail> {
     let mut list = [0; 1];
     let mut ms = memories(&mut cells, &mut places, &mut list);
     let mut ch = Channels::open(&ms, 1, 1)?;
-    assert_eq!(rt; received(ch.receive_poll(&mut ms, 0, 5)), Receive::Wait);
-    assert_eq!(rt;
-        received(ch.receive_poll(&mut ms, 0, 6)),
-        Receive::Refused(Refusal::Places)
-    );
-    assert_eq!(rt; sent(ch.send_poll(&mut ms, 0, 1, 10)), Send::Sent(1));
+    assert_eq!(rt; ch.receive_poll(&mut ms, 0, 5), Ok(ReceivePoll::Wait));
+    assert_eq!(rt; ch.receive_poll(&mut ms, 0, 6), Err(Refusal::Places));
+    assert_eq!(rt; ch.send_poll(&mut ms, 0, 1, 10), Ok(SendPoll::Sent(1)));
     assert_eq!(rt; front(&ms), (Some(5), None));
-    assert_eq!(rt; sent(ch.send_poll(&mut ms, 0, 7, 11)), Send::Wait(11));
+    assert_eq!(rt; ch.send_poll(&mut ms, 0, 7, 11), Ok(SendPoll::Wait(11)));
     assert_eq!(rt;
-        sent(ch.send_poll(&mut ms, 0, 8, 12)),
-        Send::Refused(Refusal::Places, 12)
+        ch.send_poll(&mut ms, 0, 8, 12),
+        refused(Refusal::Places, 12)
     );
     Ok(())
 }
@@ -383,10 +349,10 @@ fn the_rest_of_the_woken_list_stays(rt: HostRuntime) -> Result<(), Fail> {
     let mut list = [91, 92, 93];
     let mut ms = memories(&mut cells, &mut places, &mut list);
     let mut ch = Channels::open(&ms, 1, 1)?;
-    assert_eq!(rt; received(ch.receive_poll(&mut ms, 0, 5)), Receive::Wait);
-    assert_eq!(rt; received(ch.receive_poll(&mut ms, 0, 6)), Receive::Wait);
+    assert_eq!(rt; ch.receive_poll(&mut ms, 0, 5), Ok(ReceivePoll::Wait));
+    assert_eq!(rt; ch.receive_poll(&mut ms, 0, 6), Ok(ReceivePoll::Wait));
     assert_eq!(rt; front(&ms), (Some(91), Some(92)));
-    assert_eq!(rt; sent(ch.send_poll(&mut ms, 0, 1, 10)), Send::Sent(2));
+    assert_eq!(rt; ch.send_poll(&mut ms, 0, 1, 10), Ok(SendPoll::Sent(2)));
     assert_eq!(rt; front(&ms), (Some(5), Some(6)));
     assert_eq!(rt; ms.woken.list.get(2).copied(), Some(93));
     Ok(())
@@ -400,7 +366,7 @@ fn receivers_stay(rt: HostRuntime) -> Result<(), Fail> {
     let mut list = [0; 4];
     let mut ms = memories(&mut cells, &mut places, &mut list);
     let mut ch = Channels::open(&ms, 2, 1)?;
-    assert_eq!(rt; received(ch.receive_poll(&mut ms, 0, 5)), Receive::Wait);
+    assert_eq!(rt; ch.receive_poll(&mut ms, 0, 5), Ok(ReceivePoll::Wait));
     assert_eq!(rt; ch.close_receiver(&mut ms, 0), Ok(0));
     assert_eq!(rt; (front(&ms), ms.entries.free()), ((Some(0), Some(0)), 3));
     assert_eq!(rt; ch.close_sender(&mut ms, 0), Ok(1));

@@ -1,30 +1,44 @@
-use Rattle.std.proofs.Common.{◌-◌, Err, refl, ap, ◌∙◌, rules}
-use Rattle.std.proofs.lemmas.Bool.{both_ways}
-use Rattle.std.proofs.lemmas.Result.{err_from_is_err_and}
+use Rattle.std.proofs.Common.{◌-◌, Option, set, sym, refl, ap, ◌∙◌}
+use Rattle.std.proofs.lemmas.Bool.{false≢true}
+use Rattle.distributor_channels.specs.Calls.{seen, facts, records}
+use Rattle.distributor_channels.proofs.Chronicle.{left_receiver}
+use Rattle.distributor_channels.proofs.Standing.{found_here, unwritten, unfit, beyond}
+use Rattle.bank.specs.declared.Queue.{Queue}
 use Rattle.distributor_channels.specs.Meaning.{bit}
-use Rattle.distributor_channels.specs.Steps.{close_receiver_step}
-use Rattle.distributor_channels.specs.Histories.{closes_receiver, closing_receiver}
-use Rattle.distributor_channels.specs.Calls.{seen, facts}
-use Rattle.distributor_channels.proofs.Chronicle.{chronicled}
-use Rattle.distributor_channels.proofs.Standing.{found_is}
-use Rattle.distributor_channels.proofs.Sending.{lengths_first}
-use Rattle.distributor_channels.proofs.Closing.{unhear_unfound, unhear_shut, unhear_gone}
+use Rattle.distributor_channels.proofs.Closing.{as_bit, with_line, unhear_unfound, unhear_shut, unhear_gone}
 use Rattle.distributor_channels.proofs.Channels.close_receiver.Goals as goal
 
-pub returns-in_err-record : goal.returns-in_err-record
-returns-in_err-record g c =
-    let me = c.args.self.now in let ms = seen c.args.memories.now in let k = c.args.channel in let why = c.in_err-record.field-0.0 in
-    let p = err_from_is_err_and c.from_residual.result c.from_residual.ensures.1 in
-    rw (p.1, p.2) (let l = unhear_unfound me ms k why c.in_err-record.ensures in record { law = l; history = chronicled (closes_receiver k) (λ f m. close_receiver_step f m k) (λ n v h m run f. closing_receiver run f k) _ _ _ _ _ l; unfit = λ f. (ap Err (lengths_first me ms k why c.in_err-record.ensures f), refl, refl); same = search rules; steady = record { n = refl; places = refl; cells = refl; elements = refl; entries = refl; woken = refl } })
+pub returns-then-not-fit-clause-law : goal.returns-then-not-fit-clause-law
+returns-then-not-fit-clause-law g c = unhear_unfound c.args.self.now (seen c.args.memories.now) c.args.channel (unfit (sym c.fit.ensures ∙ c.if-not-fit.true))
 
-pub returns-in_default : goal.returns-in_default
-returns-in_default g c =
-    let me = c.args.self.now in let ms = seen c.args.memories.now in let k = c.args.channel in
-    let fd = found_is me (facts me ms).fit k c.in_ok-record.record c.in_ok-record.ensures in
-    let l = unhear_shut me ms k c.in_ok-record.record fd c.in_default.is in record { law = l; history = chronicled (closes_receiver k) (λ f m. close_receiver_step f m k) (λ n v h m run f. closing_receiver run f k) _ _ _ _ _ l; unfit = λ f. absurd (both_ways _ f fd.fit); same = search rules; steady = record { n = refl; places = refl; cells = refl; elements = search rules; entries = search rules; woken = search rules } }
+pub returns-in_default-clause-law : goal.returns-in_default-clause-law
+returns-in_default-clause-law g c =
+    unhear_unfound c.args.self.now (seen c.args.memories.now) c.args.channel
+    (beyond (sym c.fit.ensures ∙ c.if-not-fit.false) (λ h. false≢true (c.in_default.ensures.variant.1 h)))
 
-pub returns : goal.returns
-returns g c =
-    let me = c.args.self.now in let ms = seen c.args.memories.now in let k = c.args.channel in
-    let fd = found_is me (facts me ms).fit k c.in_ok-record.record c.in_ok-record.ensures in
-    let l = unhear_gone me ms k c.in_ok-record.record fd c.in-Some.queue c.in-Some.is _ (c.less-self.ensures ∙ ap (λ b. me.count - bit b) c.is_open.ensures) _ _ c.discard.ensures.law _ _ _ c.take_out-gone.ensures.law _ _ _ _ c.name_all-named.ensures.law _ c.write_at.ensures in record { law = l; history = chronicled (closes_receiver k) (λ f m. close_receiver_step f m k) (λ n v h m run f. closing_receiver run f k) _ _ _ _ _ l; unfit = λ f. absurd (both_ways _ f fd.fit); same = search rules; steady = record { n = refl; places = refl; cells = refl; elements = search rules; entries = search rules; woken = search rules } }
+pub returns-in_default-take-clause-law : goal.returns-in_default-take-clause-law
+returns-in_default-take-clause-law g c =
+    let me = c.args.self.now in let ms = seen c.args.memories.now in let k = c.args.channel in let ch = c.in-Some.record.now in
+    let fd = found_here me (facts me ms).fit k ch (sym c.fit.ensures ∙ c.if-not-fit.false) (c.in-Some.ensures.variant.0 refl) c.in-Some.ensures.value in
+    rw (unwritten me (facts me ms).fit k ch _ fd (ap (with_line ch) (c.take.ensures.after ∙ (sym c.in_default-take.is ∙ c.take.ensures.value))))
+    (unhear_shut me ms k ch fd (sym c.take.ensures.value ∙ c.in_default-take.is))
+
+pub returns-clause-law : goal.returns-clause-law
+returns-clause-law g c =
+    let me = c.args.self.now in let ms = seen c.args.memories.now in let k = c.args.channel in let ch = c.in-Some.record.now in
+    let fd = found_here me (facts me ms).fit k ch (sym c.fit.ensures ∙ c.if-not-fit.false) (c.in-Some.ensures.variant.0 refl) c.in-Some.ensures.value in
+    unhear_gone me ms k ch fd c.in-Some-take.queue (sym c.take.ensures.value ∙ c.in-Some-take.is) _
+    (c.saturating_sub-self.ensures ∙ ap (λ b. me.count - b) (c.from.ensures ∙ (as_bit c.is_open-was_open.result ∙ ap bit c.is_open-was_open.ensures))) _ _ c.discard.ensures.law _ _ _ c.take_out-gone.ensures.law _ _ _ _ c.name_all.ensures.law _
+    (ap (λ (u : Option Queue). set (records me) k (with_line ch u)) c.take.ensures.after)
+
+pub returns-then-not-fit-clause-history : goal.returns-then-not-fit-clause-history
+returns-then-not-fit-clause-history g c = left_receiver _ _ _ _ _ _ (returns-then-not-fit-clause-law g c)
+
+pub returns-in_default-clause-history : goal.returns-in_default-clause-history
+returns-in_default-clause-history g c = left_receiver _ _ _ _ _ _ (returns-in_default-clause-law g c)
+
+pub returns-in_default-take-clause-history : goal.returns-in_default-take-clause-history
+returns-in_default-take-clause-history g c = left_receiver _ _ _ _ _ _ (returns-in_default-take-clause-law g c)
+
+pub returns-clause-history : goal.returns-clause-history
+returns-clause-history g c = left_receiver _ _ _ _ _ _ (returns-clause-law g c)

@@ -1,36 +1,50 @@
-use Rattle.std.proofs.Common.{◌-◌, Err, refl, ap, ◌∙◌, rules}
-use Rattle.std.proofs.lemmas.Bool.{both_ways}
-use Rattle.std.proofs.lemmas.Result.{err_from_is_err_and}
-use Rattle.distributor_channels.specs.Meaning.{bit}
-use Rattle.distributor_channels.specs.Steps.{close_sender_step}
-use Rattle.distributor_channels.specs.Histories.{closes_sender, closing_sender}
+use Rattle.std.proofs.Common.{◌-◌, sym, refl, ap, ◌∙◌}
+use Rattle.std.proofs.lemmas.Bool.{false≢true}
 use Rattle.distributor_channels.specs.Calls.{seen, facts}
-use Rattle.distributor_channels.proofs.Chronicle.{chronicled}
-use Rattle.distributor_channels.proofs.Standing.{found_is}
-use Rattle.distributor_channels.proofs.Sending.{lengths_first}
-use Rattle.distributor_channels.proofs.Closing.{leave_unfound, leave-shut, leave_fewer, leave_last}
+use Rattle.distributor_channels.proofs.Chronicle.{left_sender}
+use Rattle.distributor_channels.proofs.Standing.{found_here, unwritten, unfit, beyond}
+use Rattle.distributor_channels.specs.Meaning.{bit}
+use Rattle.distributor_channels.proofs.Closing.{as_bit, leave_unfound, leave-shut, leave_fewer, leave_last}
 use Rattle.distributor_channels.proofs.Channels.close_sender.Goals as goal
 
-pub returns-in_err-record : goal.returns-in_err-record
-returns-in_err-record g c =
-    let me = c.args.self.now in let ms = seen c.args.memories.now in let k = c.args.channel in let why = c.in_err-record.field-0.0 in
-    let p = err_from_is_err_and c.from_residual.result c.from_residual.ensures.1 in
-    rw (p.1, p.2) (let l = leave_unfound me ms k why c.in_err-record.ensures in record { law = l; history = chronicled (closes_sender k) (λ f m. close_sender_step f m k) (λ n v h m run f. closing_sender run f k) _ _ _ _ _ l; unfit = λ f. (ap Err (lengths_first me ms k why c.in_err-record.ensures f), refl, refl); same = search rules; steady = record { n = refl; places = refl; cells = refl; elements = refl; entries = refl; woken = refl } })
+pub returns-then-not-fit-clause-law : goal.returns-then-not-fit-clause-law
+returns-then-not-fit-clause-law g c = leave_unfound c.args.self.now (seen c.args.memories.now) c.args.channel (unfit (sym c.fit.ensures ∙ c.if-not-fit.true))
 
-pub returns-then-record-eq0 : goal.returns-then-record-eq0
-returns-then-record-eq0 g c =
-    let me = c.args.self.now in let ms = seen c.args.memories.now in let k = c.args.channel in
-    let fd = found_is me (facts me ms).fit k c.in_ok-record.record c.in_ok-record.ensures in
-    let l = leave-shut me ms k c.in_ok-record.record fd c.if-record-eq0.true in record { law = l; history = chronicled (closes_sender k) (λ f m. close_sender_step f m k) (λ n v h m run f. closing_sender run f k) _ _ _ _ _ l; unfit = λ f. absurd (both_ways _ f fd.fit); same = search rules; steady = record { n = refl; places = refl; cells = refl; elements = search rules; entries = search rules; woken = search rules } }
+pub returns-in_default-clause-law : goal.returns-in_default-clause-law
+returns-in_default-clause-law g c =
+    leave_unfound c.args.self.now (seen c.args.memories.now) c.args.channel
+    (beyond (sym c.fit.ensures ∙ c.if-not-fit.false) (λ h. false≢true (c.in_default.ensures.variant.1 h)))
 
-pub returns-then-record-gt1 : goal.returns-then-record-gt1
-returns-then-record-gt1 g c =
-    let me = c.args.self.now in let ms = seen c.args.memories.now in let k = c.args.channel in
-    let fd = found_is me (facts me ms).fit k c.in_ok-record.record c.in_ok-record.ensures in
-    let l = leave_fewer me ms k c.in_ok-record.record fd c.if-record-eq0.false c.if-record-gt1.true _ c.fewer.ensures _ c.write_at.ensures in record { law = l; history = chronicled (closes_sender k) (λ f m. close_sender_step f m k) (λ n v h m run f. closing_sender run f k) _ _ _ _ _ l; unfit = λ f. absurd (both_ways _ f fd.fit); same = search rules; steady = record { n = refl; places = refl; cells = refl; elements = search rules; entries = search rules; woken = search rules } }
+pub returns-then-record-eq0-clause-law : goal.returns-then-record-eq0-clause-law
+returns-then-record-eq0-clause-law g c =
+    let me = c.args.self.now in let ms = seen c.args.memories.now in let k = c.args.channel in let ch = c.in-Some.record.now in
+    let fd = found_here me (facts me ms).fit k ch (sym c.fit.ensures ∙ c.if-not-fit.false) (c.in-Some.ensures.variant.0 refl) c.in-Some.ensures.value in
+    rw (unwritten me (facts me ms).fit k ch ch fd refl) (leave-shut me ms k ch fd c.if-record-eq0.true)
 
-pub returns : goal.returns
-returns g c =
-    let me = c.args.self.now in let ms = seen c.args.memories.now in let k = c.args.channel in
-    let fd = found_is me (facts me ms).fit k c.in_ok-record.record c.in_ok-record.ensures in
-    let l = leave_last me ms k c.in_ok-record.record fd c.if-record-eq0.false c.if-record-gt1.false _ _ _ _ _ c.name_all-named.ensures.law (c.less-self.ensures ∙ ap (λ b. me.count - bit b) c.is_open.ensures) _ c.write_at-2.ensures in record { law = l; history = chronicled (closes_sender k) (λ f m. close_sender_step f m k) (λ n v h m run f. closing_sender run f k) _ _ _ _ _ l; unfit = λ f. absurd (both_ways _ f fd.fit); same = search rules; steady = record { n = refl; places = refl; cells = refl; elements = search rules; entries = search rules; woken = search rules } }
+pub returns-then-record-gt1-clause-law : goal.returns-then-record-gt1-clause-law
+returns-then-record-gt1-clause-law g c =
+    let me = c.args.self.now in let ms = seen c.args.memories.now in let k = c.args.channel in let ch = c.in-Some.record.now in
+    let fd = found_here me (facts me ms).fit k ch (sym c.fit.ensures ∙ c.if-not-fit.false) (c.in-Some.ensures.variant.0 refl) c.in-Some.ensures.value in
+    leave_fewer me ms k ch fd c.if-record-eq0.false c.if-record-gt1.true _ refl _ refl
+
+pub returns-clause-law : goal.returns-clause-law
+returns-clause-law g c =
+    let me = c.args.self.now in let ms = seen c.args.memories.now in let k = c.args.channel in let ch = c.in-Some.record.now in
+    let fd = found_here me (facts me ms).fit k ch (sym c.fit.ensures ∙ c.if-not-fit.false) (c.in-Some.ensures.variant.0 refl) c.in-Some.ensures.value in
+    leave_last me ms k ch fd c.if-record-eq0.false c.if-record-gt1.false _ _ _ _ _ c.name_all.ensures.law
+    (c.saturating_sub-self.ensures ∙ ap (λ b. me.count - b) (c.from.ensures ∙ (as_bit c.is_open.result ∙ ap bit c.is_open.ensures))) _ refl
+
+pub returns-then-not-fit-clause-history : goal.returns-then-not-fit-clause-history
+returns-then-not-fit-clause-history g c = left_sender _ _ _ _ _ _ (returns-then-not-fit-clause-law g c)
+
+pub returns-in_default-clause-history : goal.returns-in_default-clause-history
+returns-in_default-clause-history g c = left_sender _ _ _ _ _ _ (returns-in_default-clause-law g c)
+
+pub returns-then-record-eq0-clause-history : goal.returns-then-record-eq0-clause-history
+returns-then-record-eq0-clause-history g c = left_sender _ _ _ _ _ _ (returns-then-record-eq0-clause-law g c)
+
+pub returns-then-record-gt1-clause-history : goal.returns-then-record-gt1-clause-history
+returns-then-record-gt1-clause-history g c = left_sender _ _ _ _ _ _ (returns-then-record-gt1-clause-law g c)
+
+pub returns-clause-history : goal.returns-clause-history
+returns-clause-history g c = left_sender _ _ _ _ _ _ (returns-clause-law g c)

@@ -1,6 +1,0 @@
-use Rattle.std.proofs.Common.{◌≡◌, ◌+◌, ◌≤◌, drop}
-use Rattle.distributor_channels.specs.Calls.{tallied}
-use Rattle.distributor_channels.proofs.tally.Given as goal
-
-abbrev pub invariant-loop-channel : goal.invariant-loop-channel
-invariant-loop-channel l = (l.count ≤ l.channel-index) × (l.count + tallied (drop l.channel-index l.table) ≡ tallied l.table)
