@@ -8,17 +8,18 @@
 #![tactic(auto)]
 
 use anyhow::anyhow;
-use bank::{Bank, Cell};
+use bank::{Bank, memory};
 use refusal::Refusal;
 use resources::notice::Notice;
 use resources::payload::BATCH_WORDS;
 use resources::store::Store;
 use resources::tripping::Tripping;
-use spill_pool::fault::{Fault, StoreCall};
-use spill_pool::{Disk, FileRecord, PoolPoll, Push, SpillPool};
-use std::io;
+use spill_pool::fault::Fault;
+use spill_pool::{Disk, FileRecord, PoolPoll, SpillPool};
+use std::{fmt, io};
 use stores::block::BlockStore;
 use stores::log::LogStore;
+use stores::logs::RECORD_LEAST;
 use stores::node::Node;
 
 // Blocks for three notices.
@@ -87,6 +88,42 @@ fn failing() -> [Call; 13] {
     ]
 }
 
+// What a poll answers, in words.
+#[derive(Drop)]
+struct Polled(PoolPoll<Notice>);
+
+impl fmt::Display for Polled {
+    fn fmt<W: fmt::Write>(&self, f: &mut fmt::Formatter<W>) -> fmt::Result {
+        match &self.0 {
+            PoolPoll::Batch(notice) => write!(f, "notice {}", notice.id),
+            PoolPoll::Faulty(fault) => write!(f, "{fault}"),
+            PoolPoll::Wait => write!(f, "wait"),
+            PoolPoll::End => write!(f, "end"),
+        }
+    }
+}
+
+// What a close answers, in words.
+#[derive(Drop)]
+struct Closed(Option<Fault>);
+
+impl fmt::Display for Closed {
+    fn fmt<W: fmt::Write>(&self, f: &mut fmt::Formatter<W>) -> fmt::Result {
+        match self.0 {
+            None => write!(f, "closed"),
+            Some(fault) => write!(f, "closed, but {fault}"),
+        }
+    }
+}
+
+// Says what a call answers, or why it is refused.
+fn say<T: fmt::Display + Drop>(rt: &HostRuntime, answer: Result<T, Refusal>) -> io::Result<()> {
+    match answer {
+        Ok(answer) => println!(rt; "{answer}"),
+        Err(why) => println!(rt; "{why}"),
+    }
+}
+
 // The pool's files, as far as a call can change them.
 #[derive(Clone, Copy)]
 struct Ends {
@@ -94,138 +131,79 @@ struct Ends {
     newest: Option<FileRecord>,
 }
 
-// Looks at them.
-fn look_at<S>(pool: &SpillPool<Notice>, disk: &Disk<S>) -> Ends {
-    Ends {
-        oldest: pool.oldest(disk),
-        newest: pool.newest(disk),
-    }
-}
-
 // Is it the file of that number?
 fn is_file(file: Option<FileRecord>, number: u32) -> bool {
-    match file {
-        Some(file) => file.number == number,
-        None => false,
-    }
+    file.is_some_and(|file| file.number == number)
 }
 
-// Says what became of the files between two looks at them.
-fn say_changes(rt: &HostRuntime, before: Ends, after: Ends) -> io::Result<()> {
-    if let Some(file) = before.oldest {
-        let number = file.number;
-        if !is_file(after.oldest, number) {
+// A pool over a store, whose calls are said.
+#[derive(Drop)]
+struct Session<'r, 'a, S> {
+    rt: &'r HostRuntime,
+    pool: SpillPool<Notice>,
+    disk: Disk<'a, S>,
+}
+
+impl<S: Store> Session<'_, '_, S> {
+    // Looks at the pool's files.
+    fn ends(&self) -> Ends {
+        Ends {
+            oldest: self.pool.oldest(&self.disk),
+            newest: self.pool.newest(&self.disk),
+        }
+    }
+
+    // Says what became of the files since that look at them.
+    fn say_changes(&self, before: Ends) -> io::Result<()> {
+        let rt = self.rt;
+        let after = self.ends();
+        if let Some(FileRecord { number, .. }) = before.oldest
+            && !is_file(after.oldest, number)
+        {
             println!(rt; "      file {number} goes")?;
         }
-    }
-    let Some(file) = after.newest else {
-        return Ok(());
-    };
-    let number = file.number;
-    if !is_file(before.newest, number) {
-        println!(rt; "      file {number} opens")?;
-    }
-    let was_finished = match before.newest {
-        Some(before) => before.number == number && before.finished,
-        None => false,
-    };
-    if file.finished && !was_finished {
-        println!(rt; "      file {number} is finished")?;
-    }
-    Ok(())
-}
-
-// Says which call of the store failed.
-fn say_fault(rt: &HostRuntime, fault: Fault) -> io::Result<()> {
-    let file = fault.file;
-    let cause = fault.cause;
-    match fault.call {
-        StoreCall::NoCall => println!(rt; "the feed fails, cause {cause}"),
-        StoreCall::Create => println!(rt; "create fails, cause {cause}"),
-        StoreCall::Append => println!(rt; "append to file {file} fails, cause {cause}"),
-        StoreCall::Finish => println!(rt; "finish of file {file} fails, cause {cause}"),
-        StoreCall::Read => println!(rt; "read of file {file} fails, cause {cause}"),
-    }
-}
-
-fn say_push(rt: &HostRuntime, answer: Result<Push, Refusal>) -> io::Result<()> {
-    match answer {
-        Ok(Push::Skipped) => println!(rt; "skipped"),
-        Ok(Push::Kept(None)) => println!(rt; "kept"),
-        Ok(Push::Kept(Some(fault))) => {
-            print!(rt; "kept, but ")?;
-            say_fault(rt, fault)
+        let Some(
+            FileRecord {
+                number,
+                finished,
+                ..
+            },
+        ) = after.newest
+        else {
+            return Ok(());
+        };
+        if !is_file(before.newest, number) {
+            println!(rt; "      file {number} opens")?;
         }
-        Ok(Push::Failed(fault)) => {
-            print!(rt; "not kept, ")?;
-            say_fault(rt, fault)
+        let was_finished = before
+            .newest
+            .is_some_and(|file| file.number == number && file.finished);
+        if finished && !was_finished {
+            println!(rt; "      file {number} is finished")?;
         }
-        Err(why) => say_refusal(rt, why),
+        Ok(())
     }
-}
 
-fn say_notice(rt: &HostRuntime, notice: Notice) -> io::Result<()> {
-    let id = notice.id;
-    println!(rt; "notice {id}")
-}
-
-fn say_polled(rt: &HostRuntime, polled: PoolPoll<Notice>) -> io::Result<()> {
-    match polled {
-        PoolPoll::Batch(notice) => say_notice(rt, notice),
-        PoolPoll::Faulty(fault) => say_fault(rt, fault),
-        PoolPoll::Wait => println!(rt; "wait"),
-        PoolPoll::End => println!(rt; "end"),
-    }
-}
-
-fn say_poll(rt: &HostRuntime, answer: Result<PoolPoll<Notice>, Refusal>) -> io::Result<()> {
-    match answer {
-        Ok(polled) => say_polled(rt, polled),
-        Err(why) => say_refusal(rt, why),
-    }
-}
-
-fn say_close(rt: &HostRuntime, answer: Result<Option<Fault>, Refusal>) -> io::Result<()> {
-    match answer {
-        Ok(None) => println!(rt; "closed"),
-        Ok(Some(fault)) => {
-            print!(rt; "closed, but ")?;
-            say_fault(rt, fault)
+    // Makes one call.
+    fn perform(&mut self, call: Call) -> io::Result<()> {
+        let rt = self.rt;
+        let before = self.ends();
+        match call {
+            Call::Push(notice) => {
+                print!(rt; "  push {}, size {}: ", notice.id, notice.size)?;
+                say(rt, self.pool.push(&mut self.disk, &notice))?;
+            }
+            Call::Poll => {
+                print!(rt; "  poll: ")?;
+                say(rt, self.pool.poll(&mut self.disk).map(Polled))?;
+            }
+            Call::CloseSink => {
+                print!(rt; "  close: ")?;
+                say(rt, self.pool.close_sink(&mut self.disk).map(Closed))?;
+            }
         }
-        Err(why) => say_refusal(rt, why),
+        self.say_changes(before)
     }
-}
-
-fn say_refusal(rt: &HostRuntime, why: Refusal) -> io::Result<()> {
-    let number = why.number();
-    println!(rt; "refused {number}")
-}
-
-// Makes one call.
-fn perform<S: Store>(
-    rt: &HostRuntime,
-    pool: &mut SpillPool<Notice>,
-    disk: &mut Disk<S>,
-    call: Call,
-) -> io::Result<()> {
-    let before = look_at(pool, disk);
-    match call {
-        Call::Push(notice) => {
-            let id = notice.id;
-            let size = notice.size;
-            print!(rt; "  push {id}, size {size}: ")?;
-            say_push(rt, pool.push(disk, &notice))?;
-        }
-        Call::Poll => {
-            print!(rt; "  poll: ")?;
-            say_poll(rt, pool.poll(disk))?;
-        }
-        Call::CloseSink => {
-            print!(rt; "  close: ")?;
-            say_close(rt, pool.close_sink(disk))?;
-        }
-    }
-    say_changes(rt, before, look_at(pool, disk))
 }
 
 // Makes all calls on a pool over that store.
@@ -233,22 +211,17 @@ fn spill<S: Store + Drop>(rt: &HostRuntime, store: S) -> anyhow::Result<()> {
     let Ok(store) = Tripping::new(store, &TRIPS) else {
         return Err(anyhow!("too many trips"));
     };
-    let mut cells = Vec::new(rt.alloc());
-    for _ in 0..PLACES {
-        cells.push(Cell::new())?;
-    }
-    let mut disk = Disk {
+    let mut cells = memory(rt.alloc(), PLACES)?;
+    let disk = Disk {
         store,
         places: Bank::new(cells.as_mut_slice()),
     };
-    let Ok(mut pool) = SpillPool::open(&disk, 0, MAXIMUM, 1) else {
+    let Ok(pool) = SpillPool::open(&disk, 0, MAXIMUM, 1) else {
         return Err(anyhow!("no pool"));
     };
-    for call in filling() {
-        perform(rt, &mut pool, &mut disk, call)?;
-    }
-    for call in failing() {
-        perform(rt, &mut pool, &mut disk, call)?;
+    let mut session = Session { rt, pool, disk };
+    for call in filling().into_iter().chain(failing()) {
+        session.perform(call)?;
     }
     Ok(())
 }
@@ -266,18 +239,14 @@ fn through_blocks(rt: &HostRuntime) -> anyhow::Result<()> {
 fn through_log(rt: &HostRuntime) -> anyhow::Result<()> {
     println!(rt; "a log store of {RUN_WORDS} words")?;
     let words = vec![in rt.alloc(); 0; RUN_WORDS]?;
-    let nodes = vec![in rt.alloc(); Node::new(); RUN_WORDS / 3]?;
+    let nodes = vec![in rt.alloc(); Node::new(); RUN_WORDS / RECORD_LEAST]?;
     let Ok(store) = LogStore::new(words, nodes) else {
         return Err(anyhow!("no log store"));
     };
     spill(rt, store)
 }
 
-fn through_both(rt: &HostRuntime) -> anyhow::Result<()> {
-    through_blocks(rt)?;
-    through_log(rt)
-}
-
 fn main(rt: HostRuntime) -> anyhow::Result<()> {
-    through_both(&rt)
+    through_blocks(&rt)?;
+    through_log(&rt)
 }

@@ -1,5 +1,5 @@
 -- Lists by their newest element, and which numbers are among the files of a list. Assumes nothing.
-use Rattle.std.proofs.Common.{◌≡◌, ℕ, true, false, cond, eqb, List, [], ◌∷◌, Some, None, Option, sym, refl, ap, ◌∙◌, subst, ⊎_elim, arith}
+use Rattle.std.proofs.Common.{◌≡◌, ℕ, true, false, cond, eqb, List, [], ◌∷◌, Some, None, Option, sym, refl, ap, ◌∙◌, subst, ⊎_elim}
 use Rattle.std.specs.List.{AllByRecursion}
 use Rattle.std.proofs.ByRecursion.{All-push}
 use Rattle.std.proofs.lemmas.Bool.{cases_Bool, cond-true, cond-false, eq-eqb, ne_eqb, eqb-true, eqb-false, or_parts, or_from, or_left, or_right, or_cases, both_ways}
@@ -21,14 +21,14 @@ module _ {T : Type 0} where
 
   -- a list with a newest element is the older ones and that one
   pub newest_split : (xs : List T) (x : T) → newest xs ≡ Some x → xs ≡ push (older xs) x
-  newest_split [] x e = absurd (let z : ◌≡◌ {A = ℕ} 0 1 = cc in omega arith)
+  newest_split [] x e = absurd (cc)
   newest_split (y ∷ []) x e = cc
   newest_split (y ∷ (z ∷ zs)) x e = ap (λ (u : List T). y ∷ u) (newest_split (z ∷ zs) x e)
 
   pub newest-none : (xs : List T) → newest xs ≡ None → xs ≡ []
   newest-none [] e = refl
-  newest-none (y ∷ []) e = absurd (let z : ◌≡◌ {A = ℕ} 0 1 = cc in omega arith)
-  newest-none (y ∷ (z ∷ zs)) e = absurd (let q : z ∷ zs ≡ [] = newest-none (z ∷ zs) e in let o : ◌≡◌ {A = ℕ} 0 1 = cc in omega arith)
+  newest-none (y ∷ []) e = absurd (cc)
+  newest-none (y ∷ (z ∷ zs)) e = absurd (let q : z ∷ zs ≡ [] = newest-none (z ∷ zs) e in cc)
 
   pub all_push_parts : (P : T → Type 0) (xs : List T) (x : T) → AllByRecursion P (push xs x) → AllByRecursion P xs × P x
   all_push_parts P [] x (p, q) = (tt, p)
@@ -56,11 +56,11 @@ pub open_some : (rs : List FileRecord) (r : FileRecord) → open_file rs ≡ Som
 open_some rs r e = by (newest rs) refl
   where
     by : (o : Option FileRecord) → newest rs ≡ o → (newest rs ≡ Some r) × (r.finished ≡ false)
-    by None n = absurd (let q : unfinished (newest rs) ≡ None = ap unfinished n in let z : ◌≡◌ {A = ℕ} 0 1 = cc in omega arith)
+    by None n = absurd (let q : unfinished (newest rs) ≡ None = ap unfinished n in cc)
     by (Some x) n =
         let q : cond x.finished None (Some x) ≡ Some r = sym (ap unfinished n) ∙ e in
         ⊎_elim
-        (λ (t : x.finished ≡ true). absurd (let u : cond x.finished None (Some x) ≡ None = cond-true _ _ _ t in let z : ◌≡◌ {A = ℕ} 0 1 = cc in omega arith))
+        (λ (t : x.finished ≡ true). absurd (let u : cond x.finished None (Some x) ≡ None = cond-true _ _ _ t in cc))
         (λ (t : x.finished ≡ false). let u : cond x.finished None (Some x) ≡ Some x = cond-false _ _ _ t in let v : x ≡ r = cc in (n ∙ ap Some v, ap (λ (w : FileRecord). w.finished) (sym v) ∙ t))
         (cases_Bool x.finished)
 
@@ -73,7 +73,7 @@ open_none rs e a = by (newest rs) refl
     by (Some x) n =
         ⊎_elim
         (λ (t : x.finished ≡ true). subst (AllByRecursion (λ r. r.finished ≡ true)) (sym (newest_split rs x n)) (All-push (λ r. r.finished ≡ true) (older rs) x a t))
-        (λ (t : x.finished ≡ false). absurd (let u : cond x.finished None (Some x) ≡ Some x = cond-false _ _ _ t in let q : cond x.finished None (Some x) ≡ None = sym (ap unfinished n) ∙ e in let z : ◌≡◌ {A = ℕ} 0 1 = cc in omega arith))
+        (λ (t : x.finished ≡ false). absurd (let u : cond x.finished None (Some x) ≡ Some x = cond-false _ _ _ t in let q : cond x.finished None (Some x) ≡ None = sym (ap unfinished n) ∙ e in cc))
         (cases_Bool x.finished)
 
 pub open_push : (rs : List FileRecord) (r : FileRecord) → open_file (push rs r) ≡ unfinished (Some r)

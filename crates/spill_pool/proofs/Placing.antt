@@ -8,34 +8,25 @@ use Rattle.bank.specs.Banks.{Mem, Is, Keeps, Adds, Takes, ReadsNewest, Rewrites}
 use Rattle.bank.proofs.Laws.{keeps_len}
 use Rattle.resources.specs.Files.{Files, remove_after}
 use Rattle.spill_pool.specs.declared.FileRecord.{FileRecord}
-use Rattle.spill_pool.specs.declared.OpenFile.{OpenFile}
 use Rattle.spill_pool.specs.Meaning.{is_spent, new_file}
 use Rattle.spill_pool.specs.Steps.{listed, ahead, swept, removed}
-use Rattle.spill_pool.specs.Calls.{Others, record_of, Settles, FilesAway, Advances, RemovesOldest, Clears, ClearsSome}
+use Rattle.spill_pool.specs.Calls.{Others, with_read, Settles, FilesAway, Advances, RemovesOldest, Clears, ClearsSome}
 use Rattle.spill_pool.proofs.Listing.{newest-push, older-push}
 
 -- the pool's queue comes first
 pub first : (q : Queue) (qs : List Queue) → Is (q ∷ qs) 0 q
 first q qs = (omega arith, refl)
 
--- what a spent file leaves, and what another does
-module _ (y : FileRecord) (fs fs' : Files) where
-  spent_store : is_spent y ≡ true → fs' ≡ remove_after fs y.number → fs' ≡ swept fs y
-  spent_store e s = s ∙ sym (cond-true (is_spent y) (remove_after fs y.number) fs e)
-
-  unspent_store : is_spent y ≡ false → fs' ≡ fs → fs' ≡ swept fs y
-  unspent_store e s = s ∙ sym (cond-false (is_spent y) (remove_after fs y.number) fs e)
-
 module _ (d : Mem FileRecord) (q : Queue) (fs : Files) (d' : Mem FileRecord) (q' : Queue) (fs' : Files) where
-  pub advances_spent : (y : FileRecord) (t : Option FileRecord) → is_spent y ≡ true → Takes d q d' q' t → fs' ≡ remove_after fs y.number → Advances y d q fs d' q' fs'
-  advances_spent y t e a s o x behind k =
+  pub advances_spent : (y : FileRecord) (t : Option FileRecord) → is_spent y ≡ true → fs' ≡ swept fs y → Takes d q d' q' t → Advances y d q fs d' q' fs'
+  advances_spent y t e s a o x behind k =
       let b = a (q ∷ o.queues) ((x ∷ behind) ∷ o.lists) 0 k (first q o.queues) in
-      (subst (λ (rs : List FileRecord). Keeps d' (q' ∷ o.queues) (rs ∷ o.lists)) (sym (cond-true (is_spent y) behind (y ∷ behind) e)) b.1, spent_store y fs fs' e s)
+      (subst (λ (rs : List FileRecord). Keeps d' (q' ∷ o.queues) (rs ∷ o.lists)) (sym (cond-true (is_spent y) behind (y ∷ behind) e)) b.1, s)
 
-  pub advances_kept : (y : FileRecord) (t : Result FileRecord FileRecord) → is_spent y ≡ false → q' ≡ q → Rewrites oldest (λ xs. y ∷ rest xs) d q y d' t → fs' ≡ fs → Advances y d q fs d' q' fs'
-  advances_kept y t e eq a s o x behind k =
+  pub advances_kept : (y : FileRecord) (t : Result FileRecord FileRecord) → is_spent y ≡ false → fs' ≡ swept fs y → q' ≡ q → Rewrites oldest (λ xs. y ∷ rest xs) d q y d' t → Advances y d q fs d' q' fs'
+  advances_kept y t e s eq a o x behind k =
       let b = ((a (q ∷ o.queues) ((x ∷ behind) ∷ o.lists) 0 k (first q o.queues)).0 x refl).1 in
-      (subst (λ (u : Queue). Keeps d' (u ∷ o.queues) (ahead y behind ∷ o.lists)) (sym eq) (subst (λ (rs : List FileRecord). Keeps d' (q ∷ o.queues) (rs ∷ o.lists)) (sym (cond-false (is_spent y) behind (y ∷ behind) e)) b), unspent_store y fs fs' e s)
+      (subst (λ (u : Queue). Keeps d' (u ∷ o.queues) (ahead y behind ∷ o.lists)) (sym eq) (subst (λ (rs : List FileRecord). Keeps d' (q ∷ o.queues) (rs ∷ o.lists)) (sym (cond-false (is_spent y) behind (y ∷ behind) e)) b), s)
 
   pub removes_oldest : (y : FileRecord) → Takes d q d' q' (Some y) → fs' ≡ remove_after fs y.number → RemovesOldest d q fs d' q' fs'
   removes_oldest y a s o x behind k =
@@ -46,55 +37,45 @@ module _ (d : Mem FileRecord) (q : Queue) (fs : Files) (d' : Mem FileRecord) (q'
   pub removes_none : Takes d q d' q' None → RemovesOldest d q fs d' q' fs'
   removes_none a o x behind k =
       let h = (a (q ∷ o.queues) ((x ∷ behind) ∷ o.lists) 0 k (first q o.queues)).0 in
-      absurd (let z : ◌≡◌ {A = ℕ} 0 1 = cc in omega arith)
+      absurd (cc)
 
-  pub files_spent : (c : OpenFile) (y : FileRecord) → y ≡ record_of c 0 → is_spent y ≡ true → d' ≡ d → q' ≡ q → fs' ≡ remove_after fs y.number → FilesAway c d q fs d' q' fs'
-  files_spent c y ey e ed eq s o before k l =
-      let e' : is_spent (record_of c 0) ≡ true = ap is_spent (sym ey) ∙ e in
-      let k' : Keeps d' (q' ∷ o.queues) (before ∷ o.lists) = subst (λ (m : Mem FileRecord). Keeps m (q' ∷ o.queues) (before ∷ o.lists)) (sym ed) (subst (λ (u : Queue). Keeps d (u ∷ o.queues) (before ∷ o.lists)) (sym eq) k) in (
-        subst (λ (rs : List FileRecord). Keeps d' (q' ∷ o.queues) (rs ∷ o.lists)) (sym (cond-true (is_spent (record_of c 0)) before (push before (record_of c 0)) e')) k',
-        spent_store (record_of c 0) fs fs' e' (s ∙ ap (λ (u : FileRecord). remove_after fs u.number) ey),
-      )
+  pub files_spent : (y : FileRecord) → is_spent y ≡ true → fs' ≡ swept fs y → d' ≡ d → q' ≡ q → FilesAway y d q fs d' q' fs'
+  files_spent y e s ed eq o before k l =
+      let k' : Keeps d' (q' ∷ o.queues) (before ∷ o.lists) = subst (λ (m : Mem FileRecord). Keeps m (q' ∷ o.queues) (before ∷ o.lists)) (sym ed) (subst (λ (u : Queue). Keeps d (u ∷ o.queues) (before ∷ o.lists)) (sym eq) k) in
+      (subst (λ (rs : List FileRecord). Keeps d' (q' ∷ o.queues) (rs ∷ o.lists)) (sym (cond-true (is_spent y) before (push before y) e)) k', s)
 
-  pub files_kept : (c : OpenFile) (y : FileRecord) (t : Result (Unit {0}) FileRecord) → y ≡ record_of c 0 → is_spent y ≡ false → Adds d q y d' q' t → fs' ≡ fs → FilesAway c d q fs d' q' fs'
-  files_kept c y t ey e a s o before k l =
-      let e' : is_spent (record_of c 0) ≡ false = ap is_spent (sym ey) ∙ e in
-      let b = ((a (q ∷ o.queues) (before ∷ o.lists) 0 k (first q o.queues)).0 l).1 in (
-        subst (λ (rs : List FileRecord). Keeps d' (q' ∷ o.queues) (rs ∷ o.lists)) (ap (push before) ey ∙ sym (cond-false (is_spent (record_of c 0)) before (push before (record_of c 0)) e')) b,
-        unspent_store (record_of c 0) fs fs' e' s,
-      )
+  pub files_kept : (y : FileRecord) (t : Result (Unit {0}) FileRecord) → is_spent y ≡ false → fs' ≡ swept fs y → Adds d q y d' q' t → FilesAway y d q fs d' q' fs'
+  files_kept y t e s a o before k l =
+      let b = ((a (q ∷ o.queues) (before ∷ o.lists) 0 k (first q o.queues)).0 l).1 in
+      (subst (λ (rs : List FileRecord). Keeps d' (q' ∷ o.queues) (rs ∷ o.lists)) (sym (cond-false (is_spent y) before (push before y) e)) b, s)
 
   -- n is the newest record, as it was found
-  module _ (c : OpenFile) (n : FileRecord) (found : ReadsNewest d q (Some n)) where
+  module _ (y n : FileRecord) (found : ReadsNewest d q (Some n)) (s : fs' ≡ swept fs (with_read y n.read)) where
     is_newest : (o : Others) (before : List FileRecord) (r : FileRecord) → Keeps d (q ∷ o.queues) (push before r ∷ o.lists) → n ≡ r
     is_newest o before r k = let h = found (q ∷ o.queues) (push before r ∷ o.lists) 0 k (first q o.queues) ∙ newest-push before r in cc
 
-    pub settles_spent : (y : FileRecord) (t : Option FileRecord) → y ≡ record_of c n.read → is_spent y ≡ true → Takes d q d' q' t → fs' ≡ remove_after fs y.number → Settles c d q fs d' q' fs'
-    settles_spent y t ey e a s o before r k one =
-        let en = is_newest o before r k in
-        let er : y ≡ record_of c r.read = ey ∙ ap (λ (u : FileRecord). record_of c u.read) en in
-        let e' : is_spent (record_of c r.read) ≡ true = ap is_spent (sym er) ∙ e in
+    pub settles_spent : (t : Option FileRecord) → is_spent (with_read y n.read) ≡ true → Takes d q d' q' t → Settles y d q fs d' q' fs'
+    settles_spent t e a o before r k one =
+        let er : with_read y n.read ≡ with_read y r.read = ap (λ (u : FileRecord). with_read y u.read) (is_newest o before r k) in
+        let e' : is_spent (with_read y r.read) ≡ true = ap is_spent (sym er) ∙ e in
         let b = (a (q ∷ o.queues) (push before r ∷ o.lists) 0 k (first q o.queues)).1 in
-        let only : rest (push before r) ≡ listed before (record_of c r.read) = ap (λ (u : List FileRecord). rest (push u r)) (one e') ∙ sym (one e') ∙ sym (cond-true (is_spent (record_of c r.read)) before (push before (record_of c r.read)) e') in (
-          subst (λ (rs : List FileRecord). Keeps d' (q' ∷ o.queues) (rs ∷ o.lists)) only b,
-          spent_store (record_of c r.read) fs fs' e' (s ∙ ap (λ (u : FileRecord). remove_after fs u.number) er),
-        )
+        let only : rest (push before r) ≡ listed before (with_read y r.read) = ap (λ (u : List FileRecord). rest (push u r)) (one e') ∙ sym (one e') ∙ sym (cond-true (is_spent (with_read y r.read)) before (push before (with_read y r.read)) e') in
+        (subst (λ (rs : List FileRecord). Keeps d' (q' ∷ o.queues) (rs ∷ o.lists)) only b, s ∙ ap (swept fs) er)
 
-    pub settles_kept : (y : FileRecord) (t : Result FileRecord FileRecord) → y ≡ record_of c n.read → is_spent y ≡ false → q' ≡ q → Rewrites newest (λ xs. push (older xs) y) d q y d' t → fs' ≡ fs → Settles c d q fs d' q' fs'
-    settles_kept y t ey e eq a s o before r k one =
-        let en = is_newest o before r k in
-        let er : y ≡ record_of c r.read = ey ∙ ap (λ (u : FileRecord). record_of c u.read) en in
-        let e' : is_spent (record_of c r.read) ≡ false = ap is_spent (sym er) ∙ e in
+    pub settles_kept : (t : Result FileRecord FileRecord) → is_spent (with_read y n.read) ≡ false → q' ≡ q → Rewrites newest (λ xs. push (older xs) (with_read y n.read)) d q (with_read y n.read) d' t → Settles y d q fs d' q' fs'
+    settles_kept t e eq a o before r k one =
+        let er : with_read y n.read ≡ with_read y r.read = ap (λ (u : FileRecord). with_read y u.read) (is_newest o before r k) in
+        let e' : is_spent (with_read y r.read) ≡ false = ap is_spent (sym er) ∙ e in
         let b = ((a (q ∷ o.queues) (push before r ∷ o.lists) 0 k (first q o.queues)).0 r (newest-push before r)).1 in
-        let rs_is : push (older (push before r)) y ≡ listed before (record_of c r.read) = ap (λ (u : List FileRecord). push u y) (older-push before r) ∙ ap (push before) er ∙ sym (cond-false (is_spent (record_of c r.read)) before (push before (record_of c r.read)) e') in (
-          subst (λ (u : Queue). Keeps d' (u ∷ o.queues) (listed before (record_of c r.read) ∷ o.lists)) (sym eq) (subst (λ (rs : List FileRecord). Keeps d' (q ∷ o.queues) (rs ∷ o.lists)) rs_is b),
-          unspent_store (record_of c r.read) fs fs' e' s,
+        let rs_is : push (older (push before r)) (with_read y n.read) ≡ listed before (with_read y r.read) = ap (λ (u : List FileRecord). push u (with_read y n.read)) (older-push before r) ∙ ap (push before) er ∙ sym (cond-false (is_spent (with_read y r.read)) before (push before (with_read y r.read)) e') in (
+          subst (λ (u : Queue). Keeps d' (u ∷ o.queues) (listed before (with_read y r.read) ∷ o.lists)) (sym eq) (subst (λ (rs : List FileRecord). Keeps d' (q ∷ o.queues) (rs ∷ o.lists)) rs_is b),
+          s ∙ ap (swept fs) er,
         )
 
-  pub settles_none : (c : OpenFile) → ReadsNewest d q None → Settles c d q fs d' q' fs'
-  settles_none c found o before r k one =
+  pub settles_none : (y : FileRecord) → ReadsNewest d q None → Settles y d q fs d' q' fs'
+  settles_none y found o before r k one =
       let h = found (q ∷ o.queues) (push before r ∷ o.lists) 0 k (first q o.queues) ∙ newest-push before r in
-      absurd (let z : ◌≡◌ {A = ℕ} 0 1 = cc in omega arith)
+      absurd (cc)
 
 removed-push : (fs : Files) (rs : List FileRecord) (r : FileRecord) → removed fs (rs ++ r ∷ []) ≡ remove_after (removed fs rs) r.number
 removed-push fs [] r = refl

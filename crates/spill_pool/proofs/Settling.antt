@@ -90,8 +90,8 @@ module _ (w maximum : ℕ) where
         fresh_more [] e = tt
         fresh_more (x ∷ xs) e =
             rest-push (λ y. y.read ≡ 0) (x ∷ xs) r (subst (λ (u : List FileRecord). AllByRecursion (λ y. y.read ≡ 0) (rest u)) (sym e) fresh)
-            (λ q. let z : ◌≡◌ {A = ℕ} 0 1 = cc in omega arith)
-            (first (λ q. let z : ◌≡◌ {A = ℕ} 0 1 = cc in omega arith))
+            (λ q. cc)
+            (first (λ q. cc))
 
         stays : is_spent r ≡ false → Sound w maximum gs (pool (push before r) n)
         stays e = record {

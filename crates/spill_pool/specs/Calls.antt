@@ -1,14 +1,16 @@
 -- What ties a pool, its file places and the store to their meaning, and what the calls promise. Assumes nothing.
-use Rattle.std.specs.Prelude.{◌≡◌, ℕ, ◌^◌, ◌<◌, ◌≤◌, true, false, cond, not, ◌&&◌, ◌||◌, List, [], ◌∷◌, take, drop, is_ok, Some, None, Ok, Err, Option, Result, MatchResult, ◌==◌, nat_le, nat_lt}
+use Rattle.std.specs.Prelude.{◌≡◌, ℕ, ◌^◌, ◌<◌, ◌≤◌, Bool, true, false, cond, ◌&&◌, ◌||◌, List, [], ◌∷◌, take, drop, is_ok, Some, None, Ok, Err, Option, Result, MatchResult, ◌==◌, nat_le, nat_lt}
 use Rattle.refusal.specs.declared.Refusal.{Refusal}
 use Rattle.refusal.specs.declared.Refusal.TheVariants.{Lengths, Range}
 use Rattle.bank.specs.declared.Queue.{Queue}
 use Rattle.bank.specs.Lists.{push, older}
-use Rattle.bank.specs.Banks.{Mem, size, freed, Keeps}
+use Rattle.bank.specs.Banks.{Mem, view, size, SameCells, freed, Keeps}
 use Rattle.resources.specs.declared.cause.Cause.{Cause}
-use Rattle.resources.specs.Files.{Files, CreateLawful, AppendLawful, append_after, FinishLawful, finish_after, remove_after}
+use Rattle.resources.specs.Files.{Files, CreateLawful, create_after, AppendLawful, append_after, FinishLawful, finish_after, remove_after}
 use Rattle.spill_pool.specs.declared.fault.Fault.{Fault}
-use Rattle.spill_pool.specs.declared.fault.StoreCall.TheVariants.{Append}
+use Rattle.spill_pool.specs.declared.fault.StoreCall.{StoreCall}
+use Rattle.spill_pool.specs.declared.fault.StoreCall.TheVariants.{Create, Append}
+use Rattle.spill_pool.specs.declared.Disk.{Disk}
 use Rattle.spill_pool.specs.declared.FileRecord.{FileRecord}
 use Rattle.spill_pool.specs.declared.OpenFile.{OpenFile}
 use Rattle.spill_pool.specs.declared.Push.{Push}
@@ -25,17 +27,25 @@ pub record Others : Type 0 where
   pub queues : List Queue
   pub lists : List (List FileRecord)
 
--- the record of the open file that a file's record makes, and the other way round
+-- what a pool keeps of an open file, and the record that this makes, as if nothing was read
 abbrev pub current_of : FileRecord → OpenFile
-current_of r = record { number = r.number; written = r.written; sum = r.sum; live = not r.finished }
+current_of r = record { number = r.number; written = r.written; sum = r.sum }
 
-abbrev pub record_of : OpenFile → ℕ → FileRecord
-record_of c read = record { number = c.number; written = c.written; read = read; sum = c.sum; finished = not c.live }
+abbrev pub record_of : OpenFile → FileRecord
+record_of c = record { number = c.number; written = c.written; read = 0; sum = c.sum; finished = false }
 
--- the pool's record of its open file shows which file is open
-abbrev pub Shows : OpenFile → Option FileRecord → Type 0
-Shows c None = c.live ≡ false
-Shows c (Some r) = c ≡ current_of r
+-- what it keeps of any file: nothing once it is finished
+abbrev pub kept_of : FileRecord → Option OpenFile
+kept_of r = cond r.finished None (Some (current_of r))
+
+-- the record, with n batches read
+abbrev pub with_read : FileRecord → ℕ → FileRecord
+with_read r n = record { number = r.number; written = r.written; read = n; sum = r.sum; finished = r.finished }
+
+-- what the pool keeps of its open file shows which file is open
+abbrev pub Shows : Option OpenFile → Option FileRecord → Type 0
+Shows c None = c ≡ None
+Shows c (Some r) = c ≡ Some (current_of r)
 
 abbrev pub parcel : ℕ → ℕ → List ℕ → Batch
 parcel rows size words = record { rows = rows; size = size; words = words }
@@ -45,16 +55,23 @@ abbrev pub outcome : Result (Option Fault) Fault → Push
 outcome (Ok t) = Kept t
 outcome (Err e) = Failed e
 
--- an answer of the store, with its cause told as a fault of append
-abbrev pub append_or : ℕ → ℕ → Result (Unit {0}) Cause → Result (Unit {0}) Fault
-append_or p n (Ok u) = Ok u
-append_or p n (Err c) = Err (store_fault p Append n c)
+-- an answer of the store, with its cause told as a fault of that call
+abbrev pub fault_or : {A : Type 0} → ℕ → StoreCall → Result A Cause → Result A Fault
+fault_or p call (Ok x) = Ok x
+fault_or p call (Err c) = Err (store_fault p call c)
+
+-- a create, by some lawful answer of the store
+pub record Creates (p : ℕ) (fs fs' : Files) (r : Result ℕ Fault) : Type 0 where
+  pub reply : Result ℕ Cause
+  pub lawful : CreateLawful fs reply
+  pub answer : r ≡ fault_or p Create reply
+  pub store : fs' ≡ create_after fs reply
 
 -- an append, by some lawful answer of the store
 pub record Appends (p n : ℕ) (ws : List ℕ) (fs fs' : Files) (r : Result (Unit {0}) Fault) : Type 0 where
   pub reply : Result (Unit {0}) Cause
   pub lawful : AppendLawful fs n ws reply
-  pub answer : r ≡ append_or p n reply
+  pub answer : r ≡ fault_or p (Append n) reply
   pub store : fs' ≡ append_after fs n ws reply
 
 -- a finish, by some lawful answer of the store
@@ -64,29 +81,34 @@ pub record Finishes (p n : ℕ) (fs fs' : Files) (r : Option Fault) : Type 0 whe
   pub answer : r ≡ told p n reply
   pub store : fs' ≡ finish_after fs n reply
 
--- a write to the open file, of which rd batches were read and which `create` made, by some lawful answers of the store
-pub record WritesBy (s : Setup) (b : Batch) (create : Result ℕ Cause) (rd : ℕ) (c : OpenFile) (fs : Files) (c' : OpenFile) (fs' : Files) (r : Result (Option Fault) Fault) : Type 0 where
+-- a write to the file c, which `create` made, by some lawful answers of the store
+pub record WritesBy (s : Setup) (b : Batch) (create : Result ℕ Cause) (c : FileRecord) (fs : Files) (c' : FileRecord) (fs' : Files) (r : Result (Option Fault) Fault) : Type 0 where
   pub replies : Replies
   pub made : replies.create ≡ create
   pub lawful : WriteLawful fs c.number b.words replies
-  pub answer : outcome r ≡ (write s (record_of c rd) fs b replies).answer
-  pub file : c' ≡ current_of (write s (record_of c rd) fs b replies).file
-  pub store : fs' ≡ (write s (record_of c rd) fs b replies).store
+  pub answer : outcome r ≡ (write s c fs b replies).answer
+  pub file : c' ≡ (write s c fs b replies).file
+  pub store : fs' ≡ (write s c fs b replies).store
 
-abbrev pub Writes : Setup → ℕ → List ℕ → OpenFile → Files → OpenFile → Files → Result (Option Fault) Fault → Type 0
-Writes s size ws c fs c' fs' r = (rows rd : ℕ) (create : Result ℕ Cause) → c.live ≡ true → c.written < 2 ^ 32 → c.sum < 2 ^ 41 → WritesBy s (parcel rows size ws) create rd c fs c' fs' r
+abbrev pub Writes : Setup → ℕ → List ℕ → FileRecord → Files → FileRecord → Files → Result (Option Fault) Fault → Type 0
+Writes s size ws c fs c' fs' r = (rows : ℕ) (create : Result ℕ Cause) → c.finished ≡ false → c.written < 2 ^ 32 → c.sum < 2 ^ 41 → WritesBy s (parcel rows size ws) create c fs c' fs' r
 
--- the newest file's record becomes what the record of the open file says; a spent one goes, which is then the only one
-abbrev pub Settles : OpenFile → Mem FileRecord → Queue → Files → Mem FileRecord → Queue → Files → Type 0
-Settles c d q fs d' q' fs' = (o : Others) (before : List FileRecord) (r : FileRecord) →
-    Keeps d (q ∷ o.queues) (push before r ∷ o.lists) → (is_spent (record_of c r.read) ≡ true → before ≡ []) →
-    Keeps d' (q' ∷ o.queues) (listed before (record_of c r.read) ∷ o.lists) × (fs' ≡ swept fs (record_of c r.read))
+-- a spent file is removed from the store
+pub record Sweeps (y : FileRecord) (fs fs' : Files) (r : Bool) : Type 0 where
+  pub answer : r ≡ is_spent y
+  pub store : fs' ≡ swept fs y
 
--- a file just created and written to stands behind the others, or is spent and goes
-abbrev pub FilesAway : OpenFile → Mem FileRecord → Queue → Files → Mem FileRecord → Queue → Files → Type 0
-FilesAway c d q fs d' q' fs' = (o : Others) (before : List FileRecord) →
+-- the newest file's record becomes y, with as much of it read as before; a spent one goes, which is then the only one
+abbrev pub Settles : FileRecord → Mem FileRecord → Queue → Files → Mem FileRecord → Queue → Files → Type 0
+Settles y d q fs d' q' fs' = (o : Others) (before : List FileRecord) (r : FileRecord) →
+    Keeps d (q ∷ o.queues) (push before r ∷ o.lists) → (is_spent (with_read y r.read) ≡ true → before ≡ []) →
+    Keeps d' (q' ∷ o.queues) (listed before (with_read y r.read) ∷ o.lists) × (fs' ≡ swept fs (with_read y r.read))
+
+-- the file y, just created and written to, stands behind the others, or is spent and goes
+abbrev pub FilesAway : FileRecord → Mem FileRecord → Queue → Files → Mem FileRecord → Queue → Files → Type 0
+FilesAway y d q fs d' q' fs' = (o : Others) (before : List FileRecord) →
     Keeps d (q ∷ o.queues) (before ∷ o.lists) → 0 < freed d →
-    Keeps d' (q' ∷ o.queues) (listed before (record_of c 0) ∷ o.lists) × (fs' ≡ swept fs (record_of c 0))
+    Keeps d' (q' ∷ o.queues) (listed before y ∷ o.lists) × (fs' ≡ swept fs y)
 
 -- the oldest file's record becomes r; a spent one goes
 abbrev pub Advances : FileRecord → Mem FileRecord → Queue → Files → Mem FileRecord → Queue → Files → Type 0
@@ -111,22 +133,22 @@ ClearsSome i d q fs d' q' fs' = (o : Others) (rs : List FileRecord) → Keeps d 
     Keeps d' (q' ∷ o.queues) (drop i rs ∷ o.lists) × (fs' ≡ removed fs (take i rs))
 
 -- a push to a file, by some lawful answers of the store, up to the records and the record of the open file
-pub record PushesBy (lawful : Replies → Type 0) (step : Replies → Out (Result Push Refusal)) (d' : Mem FileRecord) (q' : Queue) (c' : OpenFile) (fs' : Files) (r : Push) (o : Others) : Type 0 where
+pub record PushesBy (lawful : Replies → Type 0) (step : Replies → Out (Result Push Refusal)) (d' : Mem FileRecord) (q' : Queue) (c' : Option OpenFile) (fs' : Files) (r : Result (Option Fault) Fault) (o : Others) : Type 0 where
   pub replies : Replies
   pub lawfully : lawful replies
-  pub answer : Ok r ≡ (step replies).answer
+  pub answer : Ok (outcome r) ≡ (step replies).answer
   pub store : fs' ≡ (step replies).store
   pub files : Keeps d' (q' ∷ o.queues) ((step replies).next.files ∷ o.lists)
   pub current : Shows c' (open_file (step replies).next.files)
 
 -- to the open file x
-abbrev pub PushesOpen : Setup → ℕ → List ℕ → Mem FileRecord → Queue → OpenFile → Files → Mem FileRecord → Queue → OpenFile → Files → Push → Type 0
+abbrev pub PushesOpen : Setup → ℕ → List ℕ → Mem FileRecord → Queue → OpenFile → Files → Mem FileRecord → Queue → Option OpenFile → Files → Result (Option Fault) Fault → Type 0
 PushesOpen s size ws d q c fs d' q' c' fs' r = (w rows : ℕ) (o : Others) (m : Pool) (x : FileRecord) →
-    Keeps d (q ∷ o.queues) (m.files ∷ o.lists) → Shows c (open_file m.files) → Sound w s.maximum fs m → s.maximum ≤ 2 ^ 40 → open_file m.files ≡ Some x →
+    Keeps d (q ∷ o.queues) (m.files ∷ o.lists) → Shows (Some c) (open_file m.files) → Sound w s.maximum fs m → s.maximum ≤ 2 ^ 40 → open_file m.files ≡ Some x →
     PushesBy (WriteLawful fs x.number ws) (λ a. settle (older m.files) m.sinks (write s x fs (parcel rows size ws) a)) d' q' c' fs' r o
 
 -- to a new file, where none is open and a place is free
-abbrev pub PushesNew : Setup → ℕ → List ℕ → Mem FileRecord → Queue → OpenFile → Files → Mem FileRecord → Queue → OpenFile → Files → Push → Type 0
+abbrev pub PushesNew : Setup → ℕ → List ℕ → Mem FileRecord → Queue → Option OpenFile → Files → Mem FileRecord → Queue → Option OpenFile → Files → Result (Option Fault) Fault → Type 0
 PushesNew s size ws d q c fs d' q' c' fs' r = (w rows : ℕ) (o : Others) (m : Pool) →
     Keeps d (q ∷ o.queues) (m.files ∷ o.lists) → Shows c (open_file m.files) → Sound w s.maximum fs m → open_file m.files ≡ None → 0 < freed d →
     PushesBy (λ a. CreateLawful fs a.create × NewLawful fs ws a a.create) (λ a. push_new s m fs (parcel rows size ws) a a.create) d' q' c' fs' r o
@@ -139,9 +161,6 @@ unopened places maximum sinks =
     (Some Lengths)
 
 module _ {P : Type 0} where
-  abbrev pub setup_of : SpillPool P → Setup
-  setup_of p = record { partition = p.partition; maximum = p.maximum }
-
   -- what a call finds in the file places
   abbrev pub facts_of : SpillPool P → Mem FileRecord → Facts
   facts_of p d = record { fit = (p.places == size d); places = freed d }
@@ -151,8 +170,8 @@ module _ {P : Type 0} where
     pub files : Keeps d (p.files ∷ o.queues) (m.files ∷ o.lists)
     pub current : Shows p.current (open_file m.files)
     pub sinks : p.sinks ≡ m.sinks
-    pub sound : Sound w p.maximum fs m
-    pub most : p.maximum ≤ 2 ^ 40
+    pub sound : Sound w p.setup.maximum fs m
+    pub most : p.setup.maximum ≤ 2 ^ 40
 
   -- By some lawful answers of the store, answer, store and meaning are what the step gives, whatever else the file places hold; and what is no file of the
   -- pool stays as it was.
@@ -160,10 +179,10 @@ module _ {P : Type 0} where
       (w : ℕ) (p : SpillPool P) (d : Mem FileRecord) (fs : Files) (p' : SpillPool P) (d' : Mem FileRecord) (fs' : Files) (r : Result A Refusal) (o : Others) (m : Pool) : Type 0 where
     pub replies : Replies
     pub lawfully : lawful fs m replies
-    pub answer : r ≡ (step (setup_of p) (facts_of p d) m fs replies).answer
-    pub store : fs' ≡ (step (setup_of p) (facts_of p d) m fs replies).store
-    pub after : Represents w p' d' fs' o (step (setup_of p) (facts_of p d) m fs replies).next
-    pub frame : Frame m.files fs (step (setup_of p) (facts_of p d) m fs replies).next.files fs'
+    pub answer : r ≡ (step p.setup (facts_of p d) m fs replies).answer
+    pub store : fs' ≡ (step p.setup (facts_of p d) m fs replies).store
+    pub after : Represents w p' d' fs' o (step p.setup (facts_of p d) m fs replies).next
+    pub frame : Frame m.files fs (step p.setup (facts_of p d) m fs replies).next.files fs'
 
   abbrev pub Does : {A : Type 0} → (Files → Pool → Replies → Type 0) → (Setup → Facts → Pool → Files → Replies → Out (Result A Refusal)) →
       ℕ → SpillPool P → Mem FileRecord → Files → SpillPool P → Mem FileRecord → Files → Result A Refusal → Type 0
@@ -177,8 +196,8 @@ module _ {P : Type 0} where
     pub laws : Laws k s (e ∷ h) meaning fs' gs
 
   abbrev pub Chronicles : {A : Type 0} → (A → Event P) → Kind P → SpillPool P → Mem FileRecord → Files → SpillPool P → Mem FileRecord → Files → A → Type 0
-  Chronicles call k p d fs p' d' fs' r = (n : ℕ) (h : List (Event P)) (gs : Files) (o : Others) (m : Pool) → Represents k.width p d fs o m → Run k (setup_of p) n h m fs gs →
-      Longer k (setup_of p) n h (call r) p' d' fs' gs o
+  Chronicles call k p d fs p' d' fs' r = (n : ℕ) (h : List (Event P)) (gs : Files) (o : Others) (m : Pool) → Represents k.width p d fs o m → Run k p.setup n h m fs gs →
+      Longer k p.setup n h (call r) p' d' fs' gs o
 
   -- the four calls
   abbrev pub Pushes : Kind P → P → SpillPool P → Mem FileRecord → Files → SpillPool P → Mem FileRecord → Files → Result Push Refusal → Type 0
@@ -197,24 +216,18 @@ module _ {P : Type 0} where
   abbrev pub Finds : (List FileRecord → Option FileRecord) → SpillPool P → Mem FileRecord → Option FileRecord → Type 0
   Finds which p d r = (w : ℕ) (fs : Files) (o : Others) (m : Pool) → Represents w p d fs o m → r ≡ which m.files
 
-  -- what no call changes
-  pub record Steady (p : SpillPool P) (d : Mem FileRecord) (p' : SpillPool P) (d' : Mem FileRecord) : Type 0 where
-    pub partition : p'.partition ≡ p.partition
-    pub maximum : p'.maximum ≡ p.maximum
+  -- What holds of each call, whatever the memory holds: a refused one leaves all as it was, a memory of another length is refused, and none changes the
+  -- set-up or the memory's size.
+  pub record Orderly {A S : Type 0} (p : SpillPool P) (d : Disk S) (p' : SpillPool P) (d' : Disk S) (r : Result A Refusal) : Type 0 where
+    pub refused : is_ok r ≡ false → (p' ≡ p) × (view d'.places ≡ view d.places) × (d'.store ≡ d.store)
+    pub unfit : (facts_of p (view d.places)).fit ≡ false → r ≡ Err Lengths
+    pub setup : p'.setup ≡ p.setup
     pub places : p'.places ≡ p.places
-    pub size : size d' ≡ size d
-
-  -- a refused call leaves all as it was, whatever the memory holds
-  abbrev pub Refuses : {A S : Type 0} → SpillPool P → Mem FileRecord → S → SpillPool P → Mem FileRecord → S → Result A Refusal → Type 0
-  Refuses p d s p' d' s' r = is_ok r ≡ false → (p' ≡ p) × (d' ≡ d) × (s' ≡ s)
-
-  -- a memory of another length is refused, whatever it holds
-  abbrev pub Unfit : {A : Type 0} → SpillPool P → Mem FileRecord → Result A Refusal → Type 0
-  Unfit p d r = (facts_of p d).fit ≡ false → r ≡ Err Lengths
+    pub same : SameCells d.places d'.places
 
   -- a pool is opened over the file places, or the smallest reason why not is given
   abbrev pub Opens : ℕ → Mem FileRecord → ℕ → ℕ → ℕ → Result (SpillPool P) Refusal → Type 0
   Opens w d partition maximum sinks r = MatchResult r
-      (λ p. (unopened (size d) maximum sinks ≡ None) × (setup_of p ≡ record { partition = partition; maximum = maximum }) × ((facts_of p d).fit ≡ true)
+      (λ p. (unopened (size d) maximum sinks ≡ None) × (p.setup ≡ record { partition = partition; maximum = maximum }) × ((facts_of p d).fit ≡ true)
       × ((o : Others) (fs : Files) → Keeps d o.queues o.lists → Represents w p d fs o (opened sinks)))
       (λ why. unopened (size d) maximum sinks ≡ Some why)

@@ -4,3 +4,4 @@ pub mod Steps
 pub mod Histories
 pub mod Calls
 pub mod Runs
+pub mod Texts

@@ -3,14 +3,11 @@ use Rattle.std.specs.Prelude.{◌≡◌, ℕ, ◌+◌, ◌^◌, ◌<◌, ◌≤�
 use Rattle.std.specs.List.{AllByRecursion}
 use Rattle.bank.specs.Lists.{newest, older, rest}
 use Rattle.resources.specs.declared.cause.Cause.{Cause}
+use Rattle.resources.specs.declared.payload.Payload.{Ghosts}
 use Rattle.resources.specs.Files.{File, Files, live_at, CreateLawful, create_after, AppendLawful, append_after, FinishLawful, ReadLawful}
 use Rattle.resources.specs.History.{batches_of}
 use Rattle.spill_pool.specs.declared.FileRecord.{FileRecord}
-
--- what a pool is set up with: the partition that it serves, and the size sum above which a file is finished
-pub record Setup : Type 0 where
-  pub partition : ℕ
-  pub maximum : ℕ
+pub use Rattle.spill_pool.specs.declared.Setup.{Setup}
 
 -- a pool: its files, oldest first, and how many sinks are open
 pub record Pool : Type 0 where
@@ -31,8 +28,9 @@ pub record Kind (P : Type 0) : Type 0 where
   pub words : P → List ℕ
   pub reading : List ℕ → P
 
-abbrev pub kind_by : {P : Type 0} → ℕ → (P → ℕ) → (P → ℕ) → (P → List ℕ) → (List ℕ → P) → Kind P
-kind_by width rows size words reading = record { width = width; rows = rows; size = size; words = words; reading = reading }
+-- of the type P with these ghost members of a payload
+abbrev pub kind_of : {P : Type 0} → Ghosts P → Kind P
+kind_of g = record { width = g.WORDS; rows = g.rows_of; size = g.size_of; words = g.words; reading = g.reading }
 
 -- the words of a value, 1 to 64 of them, read back as that value; sizes have 32 bits
 pub record Lawful {P : Type 0} (k : Kind P) : Type 0 where

@@ -16,30 +16,31 @@
 // files are records in a bank that is handed in with the store, drops are closes, and wakers are left out.
 #![tactic(auto)]
 
-ghost use Rattle.std.specs.Prelude.{◌≡◌, ℕ, ◌+◌, ◌-◌, ◌^◌, ◌<◌, not, ◌&&◌, ◌||◌, length, if◌then◌else◌, nat_eq, nat_le, nat_lt};
-ghost use Rattle.bank.specs.Banks.{view, size as extent};
+ghost use Rattle.std.specs.Prelude.{◌≡◌, ℕ, ◌^◌, ◌<◌, not, ◌&&◌, ◌||◌, length, MatchResult, Some, if◌then◌else◌, nat_eq, nat_le, nat_lt};
+ghost use Rattle.bank.specs.Banks.{view, size as extent, SameCells};
 ghost use Rattle.bank.specs.Lists.{oldest as oldest_of, newest as newest_of};
-ghost use Rattle.spill_pool.specs.Meaning.{is_spent, is_full, advanced, kind_by};
-ghost use Rattle.spill_pool.specs.declared.PoolPoll.TheVariants.{Wait, End};
-ghost use Rattle.spill_pool.specs.Calls.{Appends, Finishes, Writes, Settles, FilesAway, Advances, RemovesOldest, Clears, PushesOpen, PushesNew, Opens, Finds, Pushes, Polls, Closes, Removes, Chronicles, Refuses, Unfit, Steady, record_of, outcome as outcome_of};
+ghost use Rattle.spill_pool.specs.Meaning.{is_spent, is_full, new_file, kind_of};
+ghost use Rattle.spill_pool.specs.Calls.{Creates, Appends, Finishes, Writes, Sweeps, Settles, FilesAway, Advances, RemovesOldest, Clears, PushesOpen, PushesNew, Opens, Finds, Pushes, Polls, Closes, Removes, Chronicles, Orderly, record_of, kept_of, outcome};
 ghost use Rattle.spill_pool.specs.Runs.{Runs};
+ghost use Rattle.spill_pool.specs.Texts.{push_text};
 ghost use Rattle.spill_pool.specs.Histories.{pushes as pushing, polls as polling, closes as closing, removes as removing};
 
 use crate::fault::{Fault, StoreCall};
 use bank::{Bank, Queue};
 use refusal::Refusal;
 use resources::cause::Cause;
-use resources::payload::Payload;
+use resources::payload::{BATCH_WORDS, Payload};
 use resources::store::Store;
+use std::fmt;
 use std::marker::PhantomData;
 
 pub mod fault;
 
 // Limits. A file's batches are numbered in 32 bits; the maximum of a file's size sum is at most 2^40, and 1,024 file places are
 // enough for the 32 partitions of an exchange.
-const MOST_BATCHES: u64 = 4294967296;
+const MOST_BATCHES: u64 = 1 << 32;
 
-const MOST_MAXIMUM: u64 = 1099511627776;
+const MOST_MAXIMUM: u64 = 1 << 40;
 
 const MOST_PLACES: usize = 1024;
 
@@ -58,28 +59,40 @@ pub struct FileRecord {
     pub finished: bool,
 }
 
-// The pool's record of its open file: the newest one, while it is live.
+// What a pool keeps of its open file, the newest one.
 #[derive(Clone, Copy)]
 pub struct OpenFile {
     number: u32,
     written: u64,
     sum: u64,
-    // it may be written to
-    live: bool,
+}
+
+// What a pool is opened with: the partition that it serves, and the size sum above which a file is finished.
+#[derive(Clone, Copy)]
+pub struct Setup {
+    partition: usize,
+    maximum: u64,
+}
+
+// A batch as it is written.
+#[derive(Clone, Copy)]
+struct Parcel<'a> {
+    words: &'a [u64],
+    size: u32,
 }
 
 // The files of one partition, of batches of the type P.
 #[derive(Drop)]
 pub struct SpillPool<P> {
-    partition: usize,
-    maximum: u64,
+    setup: Setup,
     // how many file places there are
     places: usize,
     // how many sinks are open
     sinks: u32,
     // the records of all files, oldest first
     files: Queue,
-    current: OpenFile,
+    // the file that is written to
+    current: Option<OpenFile>,
     kind: PhantomData<P>,
 }
 
@@ -101,7 +114,29 @@ pub enum Push {
     Failed(Fault),
 }
 
-// What a poll answers.
+// What a write comes to as the answer of a push.
+impl From<Result<Option<Fault>, Fault>> for Push {
+    ghost from_gives = { λ written push. push ≡ outcome written };
+
+    fn from(written: Result<Option<Fault>, Fault>) -> Push {
+        written.map_or_else(Push::Failed, Push::Kept)
+    }
+}
+
+impl fmt::Display for Push {
+    ghost output = { λ push. Some (push_text push) };
+
+    fn fmt<W: fmt::Write>(&self, f: &mut fmt::Formatter<W>) -> fmt::Result {
+        match self {
+            Push::Skipped => write!(f, "skipped"),
+            Push::Kept(None) => write!(f, "kept"),
+            Push::Kept(Some(fault)) => write!(f, "kept, but {fault}"),
+            Push::Failed(fault) => write!(f, "not kept, {fault}"),
+        }
+    }
+}
+
+// What a poll answers. Four names say it, where `Poll<Option<Result<P, Fault>>>` nests them.
 #[derive(Drop)]
 pub enum PoolPoll<P> {
     // the next batch
@@ -114,28 +149,11 @@ pub enum PoolPoll<P> {
     End,
 }
 
-impl FileRecord {
-    // Is it finished, and nothing in it unread?
-    pub fn is_spent(&self) -> bool
-        ensures { result ≡ is_spent self.now }
-    {
-        self.finished && self.read == self.written
-    }
-}
-
-// The open file while it is written to: at the end it is put back, or left finished.
-struct WriteGuard<'a> {
-    file: &'a mut OpenFile,
-    back: bool,
-}
-
-impl Drop for WriteGuard<'_> {
-    fn drop(self)
-        ensures { self.exit.0.now ≡ record { number = self.entry.file.now.number; written = self.entry.file.now.written; sum = self.entry.file.now.sum; live = self.entry.back } }
-    {
-        self.file.live = self.back;
-        let WriteGuard { file: _, back: _ } = self;
-    }
+// Makes a file of the store.
+fn create_in<S: Store>(store: &mut S, partition: usize) -> Result<u32, Fault>
+    ensures { Creates partition (S.Store.files store.old) (S.Store.files store.new) result }
+{
+    store.create().map_err(|cause| Fault::of_store(partition, StoreCall::Create, cause))
 }
 
 // Appends to a file of the store.
@@ -147,229 +165,232 @@ fn append_to<S: Store>(
 ) -> Result<(), Fault>
     ensures { Appends partition file words.now (S.Store.files store.old) (S.Store.files store.new) result }
 {
-    match store.append(file, words) {
-        Ok(()) => Ok(()),
-        Err(cause) => Err(Fault::of_store(partition, StoreCall::Append, file, cause)),
-    }
+    store.append(file, words).map_err(|cause| Fault::of_store(
+        partition,
+        StoreCall::Append(file),
+        cause,
+    ))
 }
 
 // Finishes a file of the store, and tells the fault if that fails.
 fn finish<S: Store>(store: &mut S, partition: usize, file: u32) -> Option<Fault>
     ensures { Finishes partition file (S.Store.files store.old) (S.Store.files store.new) result }
 {
-    match store.finish(file) {
-        Ok(()) => None,
-        Err(cause) => Some(Fault::of_store(partition, StoreCall::Finish, file, cause)),
+    store.finish(file).err().map(|cause| Fault::of_store(partition, StoreCall::Finish(file), cause))
+}
+
+// The file while it is written to: at the end it is open again, or left finished.
+struct WriteGuard<'a> {
+    file: &'a mut FileRecord,
+    back: bool,
+}
+
+impl Drop for WriteGuard<'_> {
+    fn drop(self)
+        ensures { self.exit.0.now ≡ record self.entry.file.now { finished = not self.entry.back } }
+    {
+        self.file.finished = !self.back;
+        let WriteGuard { file: _, back: _ } = self;
     }
 }
 
-// Is a file of that size sum and that many batches full?
-fn is_full(maximum: u64, sum: u64, written: u64) -> bool
-    ensures { result ≡ (nat_lt maximum sum || nat_le (2 ^ 32) written) }
-{
-    sum > maximum || written >= MOST_BATCHES
-}
-
-// Writes a batch to the open file, and finishes it when it is full. After a failed append it is finished too, without a call. A guard
-// has the file meanwhile: whatever way is taken out, its end puts the file back or leaves it finished.
-fn write<S: Store>(
-    store: &mut S,
-    current: &mut OpenFile,
-    partition: usize,
-    maximum: u64,
-    words: &[u64],
-    size: u32,
-) -> Result<Option<Fault>, Fault>
-    ensures { Writes (record { partition = partition; maximum = maximum }) size words.now current.old (S.Store.files store.old) current.new (S.Store.files store.new) result }
-{
-    let mut guard = WriteGuard {
-        file: current,
-        back: false,
-    };
-    append_to(store, partition, guard.file.number, words)?;
-    guard.file.written = guard.file.written.saturating_add(1);
-    guard.file.sum = guard.file.sum.saturating_add(u64::from(size));
-    if is_full(maximum, guard.file.sum, guard.file.written) {
-        return Ok(finish(store, partition, guard.file.number));
+impl FileRecord {
+    // A file just created.
+    fn new(number: u32) -> FileRecord
+        ensures { result ≡ new_file number }
+    {
+        FileRecord {
+            number,
+            written: 0,
+            read: 0,
+            sum: 0,
+            finished: false,
+        }
     }
-    guard.back = true;
-    Ok(None)
-}
 
-// The record of a file that is or was open, of which `read` batches were read.
-fn record_of(current: OpenFile, read: u64) -> FileRecord
-    ensures { result ≡ record_of current read }
-{
-    FileRecord {
-        number: current.number,
-        written: current.written,
-        read,
-        sum: current.sum,
-        finished: !current.live,
+    // Is it finished, and nothing in it unread?
+    pub fn is_spent(&self) -> bool
+        ensures { result ≡ is_spent self.now }
+    {
+        self.finished && self.read == self.written
     }
-}
 
-// Writes the record of the file that is or was open to its place, that of the newest; a spent file goes from the list and the store.
-fn settle<S: Store>(disk: &mut Disk<S>, files: &mut Queue, current: OpenFile)
-    ensures law { Settles current (view disk.old.places) files.old (S.Store.files disk.old.store) (view disk.new.places) files.new (S.Store.files disk.new.store) }
-    ensures same { disk.new.places.cells.ghost_name ≡ disk.old.places.cells.ghost_name }
-    ensures size { extent (view disk.new.places) ≡ extent (view disk.old.places) }
-{
-    let Some(newest) = disk.places.newest(files) else {
-        return;
-    };
-    let file = record_of(current, newest.read);
-    if file.is_spent() {
-        let _ = disk.places.take(files);
-        disk.store.remove(file.number);
-        return;
+    // Is it due to be finished?
+    fn is_full(&self, setup: Setup) -> bool
+        ensures { result ≡ is_full setup self.now }
+    {
+        self.sum > setup.maximum || self.written >= MOST_BATCHES
     }
-    let _ = disk.places.rewrite_newest(files, file);
-}
 
-// Adds the record of a file that was just created and written to; a spent one goes from the store.
-fn file_away<S: Store>(disk: &mut Disk<S>, files: &mut Queue, current: OpenFile)
-    ensures law { FilesAway current (view disk.old.places) files.old (S.Store.files disk.old.store) (view disk.new.places) files.new (S.Store.files disk.new.store) }
-    ensures same { disk.new.places.cells.ghost_name ≡ disk.old.places.cells.ghost_name }
-    ensures size { extent (view disk.new.places) ≡ extent (view disk.old.places) }
-{
-    let file = record_of(current, 0);
-    if file.is_spent() {
-        disk.store.remove(file.number);
-        return;
+    // What a pool keeps of it: nothing once it is finished.
+    fn kept(&self) -> Option<OpenFile>
+        ensures { result ≡ kept_of self.now }
+    {
+        (!self.finished).then_some(OpenFile {
+            number: self.number,
+            written: self.written,
+            sum: self.sum,
+        })
     }
-    let _ = disk.places.add(files, file);
-}
 
-// Writes the record of the oldest file, of which one more batch was read; a spent file goes from the list and the store.
-fn advance<S: Store>(disk: &mut Disk<S>, files: &mut Queue, file: FileRecord)
-    ensures law { Advances file (view disk.old.places) files.old (S.Store.files disk.old.store) (view disk.new.places) files.new (S.Store.files disk.new.store) }
-    ensures same { disk.new.places.cells.ghost_name ≡ disk.old.places.cells.ghost_name }
-    ensures size { extent (view disk.new.places) ≡ extent (view disk.old.places) }
-{
-    if file.is_spent() {
-        let _ = disk.places.take(files);
-        disk.store.remove(file.number);
-        return;
-    }
-    let _ = disk.places.rewrite_oldest(files, file);
-}
-
-// Removes the oldest file from the list and the store.
-fn remove_oldest<S: Store>(disk: &mut Disk<S>, files: &mut Queue)
-    ensures law { RemovesOldest (view disk.old.places) files.old (S.Store.files disk.old.store) (view disk.new.places) files.new (S.Store.files disk.new.store) }
-    ensures same { disk.new.places.cells.ghost_name ≡ disk.old.places.cells.ghost_name }
-    ensures size { extent (view disk.new.places) ≡ extent (view disk.old.places) }
-{
-    if let Some(file) = disk.places.take(files) {
-        disk.store.remove(file.number);
+    // Writes a batch to the file, and finishes it when it is full. After a failed append it is finished too, without a call. A guard
+    // has the file meanwhile: whatever way is taken out, its end leaves the file open or finished.
+    fn write<S: Store>(
+        &mut self,
+        store: &mut S,
+        setup: Setup,
+        batch: &Parcel,
+    ) -> Result<Option<Fault>, Fault>
+        ensures { Writes setup batch.now.size batch.now.words.now self.old (S.Store.files store.old) self.new (S.Store.files store.new) result }
+    {
+        let mut guard = WriteGuard {
+            file: self,
+            back: false,
+        };
+        append_to(store, setup.partition, guard.file.number, batch.words)?;
+        guard.file.written = guard.file.written.saturating_add(1);
+        guard.file.sum = guard.file.sum.saturating_add(u64::from(batch.size));
+        if guard.file.is_full(setup) {
+            return Ok(finish(store, setup.partition, guard.file.number));
+        }
+        guard.back = true;
+        Ok(None)
     }
 }
 
-// Removes all files.
-fn clear<S: Store>(disk: &mut Disk<S>, files: &mut Queue)
-    ensures law { Clears (view disk.old.places) files.old (S.Store.files disk.old.store) (view disk.new.places) files.new (S.Store.files disk.new.store) }
-    ensures same { disk.new.places.cells.ghost_name ≡ disk.old.places.cells.ghost_name }
-    ensures size { extent (view disk.new.places) ≡ extent (view disk.old.places) }
-{
-    let n = files.len();
-    for _ in 0..n {
-        remove_oldest(disk, files);
+impl OpenFile {
+    // Its record, as if nothing of it was read: what a pool keeps of a file does not say how far it was.
+    fn record(self) -> FileRecord
+        ensures { result ≡ record_of self }
+    {
+        FileRecord {
+            written: self.written,
+            sum: self.sum,
+            ..FileRecord::new(self.number)
+        }
     }
 }
 
-// What a write comes to as the answer of a push.
-fn outcome(written: Result<Option<Fault>, Fault>) -> Push
-    ensures { result ≡ outcome_of written }
+// Removes the file from the store if it is spent, and tells whether it is.
+fn sweep<S: Store>(store: &mut S, file: &FileRecord) -> bool
+    ensures { Sweeps file.now (S.Store.files store.old) (S.Store.files store.new) result }
 {
-    match written {
-        Ok(told) => Push::Kept(told),
-        Err(fault) => Push::Failed(fault),
+    let spent = file.is_spent();
+    if spent {
+        store.remove(file.number);
     }
+    spent
 }
 
-// Writes a batch to the open file.
-fn push_open<S: Store>(
-    disk: &mut Disk<S>,
-    files: &mut Queue,
-    current: &mut OpenFile,
-    partition: usize,
-    maximum: u64,
-    words: &[u64],
-    size: u32,
-) -> Push
-    ensures law { PushesOpen (record { partition = partition; maximum = maximum }) size words.now (view disk.old.places) files.old current.old (S.Store.files disk.old.store) (view disk.new.places) files.new current.new (S.Store.files disk.new.store) result }
-    ensures same { disk.new.places.cells.ghost_name ≡ disk.old.places.cells.ghost_name }
-    ensures size { extent (view disk.new.places) ≡ extent (view disk.old.places) }
-{
-    let written = write(&mut disk.store, current, partition, maximum, words, size);
-    settle(disk, files, *current);
-    outcome(written)
-}
+impl<S: Store> Disk<'_, S> {
+    // Writes the record of a file that was open to its place, that of the newest, which says how much of it was read; a spent file goes.
+    // `advance` is its twin at the other end: one function for both would take the end's call as a closure, and a longer contract.
+    fn settle(&mut self, files: &mut Queue, file: FileRecord)
+        ensures law { Settles file (view self.old.places) files.old (S.Store.files self.old.store) (view self.new.places) files.new (S.Store.files self.new.store) }
+        ensures same { SameCells self.old.places self.new.places }
+    {
+        let Some(newest) = self.places.newest(files) else {
+            return;
+        };
+        let file = FileRecord {
+            read: newest.read,
+            ..file
+        };
+        if sweep(&mut self.store, &file) {
+            let _ = self.places.take(files);
+            return;
+        }
+        let _ = self.places.rewrite_newest(files, file);
+    }
 
-// Writes a batch to a new file. A failed create leaves no file.
-fn push_new<S: Store>(
-    disk: &mut Disk<S>,
-    files: &mut Queue,
-    current: &mut OpenFile,
-    partition: usize,
-    maximum: u64,
-    words: &[u64],
-    size: u32,
-) -> Push
-    ensures law { PushesNew (record { partition = partition; maximum = maximum }) size words.now (view disk.old.places) files.old current.old (S.Store.files disk.old.store) (view disk.new.places) files.new current.new (S.Store.files disk.new.store) result }
-    ensures same { disk.new.places.cells.ghost_name ≡ disk.old.places.cells.ghost_name }
-    ensures size { extent (view disk.new.places) ≡ extent (view disk.old.places) }
-{
-    let number = match disk.store.create() {
-        Ok(number) => number,
-        Err(cause) => return Push::Failed(Fault::of_store(partition, StoreCall::Create, 0, cause)),
-    };
-    *current = OpenFile {
-        number,
-        written: 0,
-        sum: 0,
-        live: true,
-    };
-    let written = write(&mut disk.store, current, partition, maximum, words, size);
-    file_away(disk, files, *current);
-    outcome(written)
+    // Adds the record of a file that was just created and written to; a spent one goes from the store.
+    fn file_away(&mut self, files: &mut Queue, file: FileRecord)
+        ensures law { FilesAway file (view self.old.places) files.old (S.Store.files self.old.store) (view self.new.places) files.new (S.Store.files self.new.store) }
+        ensures same { SameCells self.old.places self.new.places }
+    {
+        if sweep(&mut self.store, &file) {
+            return;
+        }
+        let _ = self.places.add(files, file);
+    }
+
+    // Writes the record of the oldest file, of which one more batch was read; a spent file goes.
+    fn advance(&mut self, files: &mut Queue, file: FileRecord)
+        ensures law { Advances file (view self.old.places) files.old (S.Store.files self.old.store) (view self.new.places) files.new (S.Store.files self.new.store) }
+        ensures same { SameCells self.old.places self.new.places }
+    {
+        if sweep(&mut self.store, &file) {
+            let _ = self.places.take(files);
+            return;
+        }
+        let _ = self.places.rewrite_oldest(files, file);
+    }
+
+    // Removes the oldest file from the list and the store.
+    fn remove_oldest(&mut self, files: &mut Queue)
+        ensures law { RemovesOldest (view self.old.places) files.old (S.Store.files self.old.store) (view self.new.places) files.new (S.Store.files self.new.store) }
+        ensures same { SameCells self.old.places self.new.places }
+    {
+        if let Some(file) = self.places.take(files) {
+            self.store.remove(file.number);
+        }
+    }
+
+    // Removes all files.
+    fn clear(&mut self, files: &mut Queue)
+        ensures law { Clears (view self.old.places) files.old (S.Store.files self.old.store) (view self.new.places) files.new (S.Store.files self.new.store) }
+        ensures same { SameCells self.old.places self.new.places }
+    {
+        // a count and no `while let`: that a `take` makes a queue shorter is known in good order only
+        for _ in 0..files.len() {
+            self.remove_oldest(files);
+        }
+    }
+
+    // Writes a batch to the open file.
+    fn push_open(
+        &mut self,
+        files: &mut Queue,
+        current: &mut Option<OpenFile>,
+        kept: OpenFile,
+        setup: Setup,
+        batch: &Parcel,
+    ) -> Result<Option<Fault>, Fault>
+        ensures law { PushesOpen setup batch.now.size batch.now.words.now (view self.old.places) files.old kept (S.Store.files self.old.store) (view self.new.places) files.new current.new (S.Store.files self.new.store) result }
+        ensures same { SameCells self.old.places self.new.places }
+    {
+        let mut file = kept.record();
+        let written = file.write(&mut self.store, setup, batch);
+        *current = file.kept();
+        self.settle(files, file);
+        written
+    }
+
+    // Writes a batch to a new file. A failed create leaves no file.
+    fn push_new(
+        &mut self,
+        files: &mut Queue,
+        current: &mut Option<OpenFile>,
+        setup: Setup,
+        batch: &Parcel,
+    ) -> Result<Option<Fault>, Fault>
+        ensures law { PushesNew setup batch.now.size batch.now.words.now (view self.old.places) files.old current.old (S.Store.files self.old.store) (view self.new.places) files.new current.new (S.Store.files self.new.store) result }
+        ensures same { SameCells self.old.places self.new.places }
+    {
+        let number = create_in(&mut self.store, setup.partition)?;
+        let mut file = FileRecord::new(number);
+        let written = file.write(&mut self.store, setup, batch);
+        *current = file.kept();
+        self.file_away(files, file);
+        written
+    }
 }
 
 // The number of a batch as the store takes it; in good order it has 32 bits.
 fn index_of(read: u64) -> u32
     ensures { read < 2 ^ 32 → result ≡ read }
 {
-    if read < MOST_BATCHES {
-        read as u32
-    } else {
-        u32::MAX
-    }
-}
-
-// The record with one more batch read.
-fn read_on(file: FileRecord) -> FileRecord
-    requires { file.read < file.written }
-    ensures { result ≡ advanced file }
-{
-    FileRecord {
-        number: file.number,
-        written: file.written,
-        read: file.read + 1,
-        sum: file.sum,
-        finished: file.finished,
-    }
-}
-
-// Nothing is unread: the end without sinks, else a wait.
-fn resting<P>(sinks: u32) -> PoolPoll<P>
-    ensures { result ≡ (if nat_eq sinks 0 then End else Wait) }
-{
-    if sinks == 0 {
-        PoolPoll::End
-    } else {
-        PoolPoll::Wait
-    }
+    u32::try_from(read).unwrap_or(u32::MAX)
 }
 
 impl<P> SpillPool<P> {
@@ -383,47 +404,54 @@ impl<P> SpillPool<P> {
         ensures { (w : ℕ) → Opens w (view disk.now.places) partition maximum sinks result }
     {
         let places = disk.places.size();
-        if places < 1 || places > MOST_PLACES {
+        if !(1..=MOST_PLACES).contains(&places) {
             return Err(Refusal::Lengths);
         }
-        if maximum > MOST_MAXIMUM || sinks < 1 || sinks > MOST_SINKS {
+        if maximum > MOST_MAXIMUM || !(1..=MOST_SINKS).contains(&sinks) {
             return Err(Refusal::Range);
         }
         Ok(SpillPool {
-            partition,
-            maximum,
+            setup: Setup { partition, maximum },
             places,
             sinks,
             files: Queue::new(),
-            current: OpenFile {
-                number: 0,
-                written: 0,
-                sum: 0,
-                live: false,
-            },
+            current: None,
             kind: PhantomData,
         })
     }
-}
 
-impl<P> SpillPool<P> {
     // The oldest file, from which polls read.
     pub fn oldest<S>(&self, disk: &Disk<S>) -> Option<FileRecord>
         ensures { Finds oldest_of self.now (view disk.now.places) result }
     {
-        match disk.places.oldest(&self.files) {
-            Some(file) => Some(*file),
-            None => None,
-        }
+        disk.places.oldest(&self.files).copied()
     }
 
     // The newest file, to which pushes write while it is not finished.
     pub fn newest<S>(&self, disk: &Disk<S>) -> Option<FileRecord>
         ensures { Finds newest_of self.now (view disk.now.places) result }
     {
-        match disk.places.newest(&self.files) {
-            Some(file) => Some(*file),
-            None => None,
+        disk.places.newest(&self.files).copied()
+    }
+
+    // Are these places as many as at the opening?
+    fn fit<S>(&self, disk: &Disk<S>) -> Result<(), Refusal>
+        ensures { MatchResult result (λ _. self.now.places ≡ extent (view disk.now.places)) (λ why. (why ≡ Refusal.Lengths) × ¬ (self.now.places ≡ extent (view disk.now.places))) }
+    {
+        if self.places != disk.places.size() {
+            return Err(Refusal::Lengths);
+        }
+        Ok(())
+    }
+
+    // Nothing is unread: the end without sinks, else a wait.
+    fn resting(&self) -> PoolPoll<P>
+        ensures { result ≡ (if nat_eq self.now.sinks 0 then PoolPoll.End else PoolPoll.Wait) }
+    {
+        if self.sinks == 0 {
+            PoolPoll::End
+        } else {
+            PoolPoll::Wait
         }
     }
 }
@@ -431,103 +459,70 @@ impl<P> SpillPool<P> {
 impl<P: Payload> SpillPool<P> {
     // Appends a batch to the open file, or to a new one where none is open.
     pub fn push<S: Store>(&mut self, disk: &mut Disk<S>, batch: &P) -> Result<Push, Refusal>
-        ensures law { Pushes (kind_by P.Payload.width P.Payload.rows_of P.Payload.size_of P.Payload.words P.Payload.reading) batch.now self.old (view disk.old.places) (S.Store.files disk.old.store) self.new (view disk.new.places) (S.Store.files disk.new.store) result }
-        ensures history { Chronicles (pushing batch.now) (kind_by P.Payload.width P.Payload.rows_of P.Payload.size_of P.Payload.words P.Payload.reading) self.old (view disk.old.places) (S.Store.files disk.old.store) self.new (view disk.new.places) (S.Store.files disk.new.store) result }
-        ensures refused { Refuses self.old (view disk.old.places) disk.old.store self.new (view disk.new.places) disk.new.store result }
-        ensures unfit { Unfit self.old (view disk.old.places) result }
-        ensures same { disk.new.places.cells.ghost_name ≡ disk.old.places.cells.ghost_name }
-        ensures steady { Steady self.old (view disk.old.places) self.new (view disk.new.places) }
+        ensures law { Pushes (kind_of P.Payload) batch.now self.old (view disk.old.places) (S.Store.files disk.old.store) self.new (view disk.new.places) (S.Store.files disk.new.store) result }
+        ensures history { Chronicles (pushing batch.now) (kind_of P.Payload) self.old (view disk.old.places) (S.Store.files disk.old.store) self.new (view disk.new.places) (S.Store.files disk.new.store) result }
+        ensures orderly { Orderly self.old disk.old self.new disk.new result }
     {
-        if self.places != disk.places.size() {
-            return Err(Refusal::Lengths);
-        }
+        self.fit(disk)?;
         if self.sinks == 0 {
             return Err(Refusal::Closed);
         }
         if batch.rows() == 0 {
             return Ok(Push::Skipped);
         }
-        let mut place = [0; 64];
+        let mut place = [0; BATCH_WORDS];
         batch.write(&mut place);
-        let words = &place[0..P::width()];
-        let mut files = self.files;
-        let mut current = self.current;
-        if current.live {
-            let answer = push_open(
-                disk,
-                &mut files,
-                &mut current,
-                self.partition,
-                self.maximum,
-                words,
-                batch.size(),
-            );
-            self.files = files;
-            self.current = current;
-            return Ok(answer);
-        }
-        if disk.places.free() == 0 {
-            return Err(Refusal::Files);
-        }
-        let answer = push_new(
-            disk,
-            &mut files,
-            &mut current,
-            self.partition,
-            self.maximum,
+        let words = &place[..P::WORDS];
+        let batch = Parcel {
             words,
-            batch.size(),
-        );
-        self.files = files;
-        self.current = current;
-        Ok(answer)
+            size: batch.size(),
+        };
+        let Some(kept) = self.current else {
+            if disk.places.free() == 0 {
+                return Err(Refusal::Files);
+            }
+            let written = disk.push_new(&mut self.files, &mut self.current, self.setup, &batch);
+            return Ok(Push::from(written));
+        };
+        let written = disk.push_open(&mut self.files, &mut self.current, kept, self.setup, &batch);
+        Ok(Push::from(written))
     }
 
     // Reads the next batch of the oldest file. Where that fails nothing moves, and the next poll reads the same batch.
     pub fn poll<S: Store>(&mut self, disk: &mut Disk<S>) -> Result<PoolPoll<P>, Refusal>
-        ensures law { Polls (kind_by P.Payload.width P.Payload.rows_of P.Payload.size_of P.Payload.words P.Payload.reading) self.old (view disk.old.places) (S.Store.files disk.old.store) self.new (view disk.new.places) (S.Store.files disk.new.store) result }
-        ensures history { Chronicles polling (kind_by P.Payload.width P.Payload.rows_of P.Payload.size_of P.Payload.words P.Payload.reading) self.old (view disk.old.places) (S.Store.files disk.old.store) self.new (view disk.new.places) (S.Store.files disk.new.store) result }
-        ensures refused { Refuses self.old (view disk.old.places) disk.old.store self.new (view disk.new.places) disk.new.store result }
-        ensures unfit { Unfit self.old (view disk.old.places) result }
-        ensures same { disk.new.places.cells.ghost_name ≡ disk.old.places.cells.ghost_name }
-        ensures steady { Steady self.old (view disk.old.places) self.new (view disk.new.places) }
+        ensures law { Polls (kind_of P.Payload) self.old (view disk.old.places) (S.Store.files disk.old.store) self.new (view disk.new.places) (S.Store.files disk.new.store) result }
+        ensures history { Chronicles polling (kind_of P.Payload) self.old (view disk.old.places) (S.Store.files disk.old.store) self.new (view disk.new.places) (S.Store.files disk.new.store) result }
+        ensures orderly { Orderly self.old disk.old self.new disk.new result }
     {
-        if self.places != disk.places.size() {
-            return Err(Refusal::Lengths);
-        }
+        self.fit(disk)?;
         let Some(oldest) = disk.places.oldest(&self.files) else {
-            return Ok(resting(self.sinks));
+            return Ok(self.resting());
         };
-        let file = *oldest;
+        let mut file = *oldest;
         if file.read >= file.written {
-            return Ok(resting(self.sinks));
+            return Ok(self.resting());
         }
-        let mut place = [0; 64];
+        let mut place = [0; BATCH_WORDS];
         if let Err(cause) = disk
             .store
             .read(file.number, index_of(file.read), &mut place)
         {
-            let fault = Fault::of_store(self.partition, StoreCall::Read, file.number, cause);
+            let call = StoreCall::Read(file.number);
+            let fault = Fault::of_store(self.setup.partition, call, cause);
             return Ok(PoolPoll::Faulty(fault));
         }
-        let mut files = self.files;
-        advance(disk, &mut files, read_on(file));
-        self.files = files;
+        file.read += 1;
+        disk.advance(&mut self.files, file);
         Ok(PoolPoll::Batch(P::read(&place)))
     }
 
     // Closes a sink. The last one finishes the open file, which is marked finished even where that fails; the fault is told.
     pub fn close_sink<S: Store>(&mut self, disk: &mut Disk<S>) -> Result<Option<Fault>, Refusal>
-        ensures law { Closes (kind_by P.Payload.width P.Payload.rows_of P.Payload.size_of P.Payload.words P.Payload.reading) self.old (view disk.old.places) (S.Store.files disk.old.store) self.new (view disk.new.places) (S.Store.files disk.new.store) result }
-        ensures history { Chronicles closing (kind_by P.Payload.width P.Payload.rows_of P.Payload.size_of P.Payload.words P.Payload.reading) self.old (view disk.old.places) (S.Store.files disk.old.store) self.new (view disk.new.places) (S.Store.files disk.new.store) result }
-        ensures refused { Refuses self.old (view disk.old.places) disk.old.store self.new (view disk.new.places) disk.new.store result }
-        ensures unfit { Unfit self.old (view disk.old.places) result }
-        ensures same { disk.new.places.cells.ghost_name ≡ disk.old.places.cells.ghost_name }
-        ensures steady { Steady self.old (view disk.old.places) self.new (view disk.new.places) }
+        ensures law { Closes (kind_of P.Payload) self.old (view disk.old.places) (S.Store.files disk.old.store) self.new (view disk.new.places) (S.Store.files disk.new.store) result }
+        ensures history { Chronicles closing (kind_of P.Payload) self.old (view disk.old.places) (S.Store.files disk.old.store) self.new (view disk.new.places) (S.Store.files disk.new.store) result }
+        ensures orderly { Orderly self.old disk.old self.new disk.new result }
     {
-        if self.places != disk.places.size() {
-            return Err(Refusal::Lengths);
-        }
+        self.fit(disk)?;
         if self.sinks == 0 {
             return Err(Refusal::Closed);
         }
@@ -535,35 +530,27 @@ impl<P: Payload> SpillPool<P> {
         if self.sinks > 0 {
             return Ok(None);
         }
-        if !self.current.live {
+        let Some(kept) = self.current.take() else {
             return Ok(None);
-        }
-        let mut files = self.files;
-        let mut current = self.current;
-        let told = finish(&mut disk.store, self.partition, current.number);
-        current.live = false;
-        settle(disk, &mut files, current);
-        self.files = files;
-        self.current = current;
+        };
+        let told = finish(&mut disk.store, self.setup.partition, kept.number);
+        let file = FileRecord {
+            finished: true,
+            ..kept.record()
+        };
+        disk.settle(&mut self.files, file);
         Ok(told)
     }
 
     // Removes all files, for a stream that closes.
     pub fn remove_all<S: Store>(&mut self, disk: &mut Disk<S>) -> Result<(), Refusal>
-        ensures law { Removes (kind_by P.Payload.width P.Payload.rows_of P.Payload.size_of P.Payload.words P.Payload.reading) self.old (view disk.old.places) (S.Store.files disk.old.store) self.new (view disk.new.places) (S.Store.files disk.new.store) result }
-        ensures history { Chronicles removing (kind_by P.Payload.width P.Payload.rows_of P.Payload.size_of P.Payload.words P.Payload.reading) self.old (view disk.old.places) (S.Store.files disk.old.store) self.new (view disk.new.places) (S.Store.files disk.new.store) result }
-        ensures refused { Refuses self.old (view disk.old.places) disk.old.store self.new (view disk.new.places) disk.new.store result }
-        ensures unfit { Unfit self.old (view disk.old.places) result }
-        ensures same { disk.new.places.cells.ghost_name ≡ disk.old.places.cells.ghost_name }
-        ensures steady { Steady self.old (view disk.old.places) self.new (view disk.new.places) }
+        ensures law { Removes (kind_of P.Payload) self.old (view disk.old.places) (S.Store.files disk.old.store) self.new (view disk.new.places) (S.Store.files disk.new.store) result }
+        ensures history { Chronicles removing (kind_of P.Payload) self.old (view disk.old.places) (S.Store.files disk.old.store) self.new (view disk.new.places) (S.Store.files disk.new.store) result }
+        ensures orderly { Orderly self.old disk.old self.new disk.new result }
     {
-        if self.places != disk.places.size() {
-            return Err(Refusal::Lengths);
-        }
-        let mut files = self.files;
-        clear(disk, &mut files);
-        self.files = files;
-        self.current.live = false;
+        self.fit(disk)?;
+        disk.clear(&mut self.files);
+        self.current = None;
         Ok(())
     }
 }

@@ -1,66 +1,36 @@
 // What a pool does on examples: each refusal, both sides of each limit, and a session in which each call of the store fails in turn.
-use bank::{Bank, Cell};
+use bank::{Bank, Cell, memory};
 use refusal::Refusal;
+use resources::cause::Cause;
 use resources::notice::Notice;
 use resources::payload::BATCH_WORDS;
 use resources::store::Store;
 use resources::tripping::Tripping;
 use spill_pool::fault::{Fault, Layer, StoreCall};
 use spill_pool::{Disk, FileRecord, PoolPoll, Push, SpillPool, runs_stand};
-use std::alloc::{AllocError, Global};
+use std::alloc::Global;
 use std::process::Abort;
 use std::test::Fail;
 use stores::block::BlockStore;
 use stores::node::Node;
 
-// Places for the records of files.
-fn places(heap: Global, n: usize) -> Result<Vec<Cell<FileRecord>>, AllocError> {
-    let mut cells = Vec::new(heap);
-    for _ in 0..n {
-        cells.push(Cell::new())?;
-    }
-    Ok(cells)
-}
-
 // A block store of eight blocks.
 fn blocks(heap: Global) -> Result<BlockStore, Fail> {
     let words = vec![in heap; 0; 8 * BATCH_WORDS]?;
     let nodes = vec![in heap; Node::new(); 8]?;
-    let Ok(store) = BlockStore::new(words, nodes) else {
-        return Err(Fail::new("no block store"));
-    };
-    Ok(store)
+    Ok(BlockStore::new(words, nodes)?)
+}
+
+// Such a store, and these places for the records of files.
+fn disk(heap: Global, cells: &mut [Cell<FileRecord>]) -> Result<Disk<'_, BlockStore>, Fail> {
+    Ok(Disk {
+        store: blocks(heap)?,
+        places: Bank::new(cells),
+    })
 }
 
 fn notice(id: u64, size: u32) -> Notice {
     Notice { id, rows: 1, size }
-}
-
-// Numbers of notices, in order.
-#[derive(Clone, Copy)]
-struct Ids {
-    list: [u64; 16],
-    count: usize,
-}
-
-impl Ids {
-    fn new() -> Ids {
-        Ids {
-            list: [0; 16],
-            count: 0,
-        }
-    }
-
-    fn note(&mut self, id: u64) {
-        if self.count < 16 {
-            self.list[self.count] = id;
-            self.count += 1;
-        }
-    }
-
-    fn same(&self, other: &Ids) -> bool {
-        self.count == other.count && self.list == other.list
-    }
 }
 
 // Pushes a notice, and notes it if it is kept.
@@ -69,12 +39,10 @@ fn push_one<S: Store>(
     disk: &mut Disk<S>,
     id: u64,
     size: u32,
-    kept: &mut Ids,
+    kept: &mut Vec<u64>,
 ) -> Result<(), Fail> {
-    match pool.push(disk, &notice(id, size)) {
-        Ok(Push::Kept(_)) => kept.note(id),
-        Ok(_) => {}
-        Err(_) => return Err(Fail::new("a push is refused")),
+    if let Push::Kept(_) = pool.push(disk, &notice(id, size))? {
+        kept.push(id)?;
     }
     Ok(())
 }
@@ -83,32 +51,21 @@ fn push_one<S: Store>(
 fn poll_one<S: Store>(
     pool: &mut SpillPool<Notice>,
     disk: &mut Disk<S>,
-    given: &mut Ids,
+    given: &mut Vec<u64>,
 ) -> Result<bool, Fail> {
-    match pool.poll(disk) {
-        Ok(polled) => Ok(note_polled(polled, given)),
-        Err(_) => Err(Fail::new("a poll is refused")),
+    let polled = pool.poll(disk)?;
+    if let PoolPoll::Batch(notice) = &polled {
+        given.push(notice.id)?;
     }
-}
-
-fn note_polled(polled: PoolPoll<Notice>, given: &mut Ids) -> bool {
-    match polled {
-        PoolPoll::Batch(notice) => {
-            given.note(notice.id);
-            false
-        }
-        PoolPoll::Faulty(_) => false,
-        PoolPoll::Wait => false,
-        PoolPoll::End => true,
-    }
+    Ok(matches!(polled, PoolPoll::End))
 }
 
 // A session of six pushes into three files, with polls between them: two files are full, one is finished by the close.
 fn session<S: Store>(
     pool: &mut SpillPool<Notice>,
     disk: &mut Disk<S>,
-    kept: &mut Ids,
-    given: &mut Ids,
+    kept: &mut Vec<u64>,
+    given: &mut Vec<u64>,
 ) -> Result<bool, Fail> {
     push_one(pool, disk, 1, 10, kept)?;
     push_one(pool, disk, 2, 11, kept)?;
@@ -118,9 +75,7 @@ fn session<S: Store>(
     push_one(pool, disk, 5, 1, kept)?;
     poll_one(pool, disk, given)?;
     push_one(pool, disk, 6, 1, kept)?;
-    if pool.close_sink(disk).is_err() {
-        return Err(Fail::new("a close is refused"));
-    }
+    pool.close_sink(disk)?;
     for _ in 0..32 {
         if poll_one(pool, disk, given)? {
             return Ok(true);
@@ -131,32 +86,23 @@ fn session<S: Store>(
 
 // Are there no files? Then as many as a store may have can be made.
 fn is_bare(store: &mut BlockStore) -> bool {
-    for _ in 0..256 {
-        if store.create().is_err() {
-            return false;
-        }
-    }
-    true
+    (0..256).all(|_| store.create().is_ok())
 }
 
 // The session with one failing call: what is kept is read, in order and once, and no file is left.
 fn one_trip(rt: &impl Abort, heap: Global, trip: u64) -> Result<(), Fail> {
     let trips = [trip];
-    let Ok(store) = Tripping::new(blocks(heap)?, &trips) else {
-        return Err(Fail::new("no tripping store"));
-    };
-    let mut cells = places(heap, 4)?;
+    let store = Tripping::new(blocks(heap)?, &trips).map_err(|(_, why)| why)?;
+    let mut cells = memory(heap, 4)?;
     let mut disk = Disk {
         store,
         places: Bank::new(cells.as_mut_slice()),
     };
-    let Ok(mut pool) = SpillPool::open(&disk, 3, 20, 1) else {
-        return Err(Fail::new("no pool"));
-    };
-    let mut kept = Ids::new();
-    let mut given = Ids::new();
+    let mut pool = SpillPool::open(&disk, 3, 20, 1)?;
+    let mut kept = Vec::new(heap);
+    let mut given = Vec::new(heap);
     assert!(rt; session(&mut pool, &mut disk, &mut kept, &mut given)?);
-    assert!(rt; kept.same(&given));
+    assert_eq!(rt; kept.as_slice(), given.as_slice());
     assert!(rt; pool.oldest(&disk).is_none());
     let Disk { store, places: _ } = disk;
     let mut below = store.into_below();
@@ -174,16 +120,9 @@ fn every_call_fails_in_turn(rt: HostRuntime) -> Result<(), Fail> {
 
 // Why a pool is not opened over `n` places, if it is not.
 fn unopened(heap: Global, n: usize, maximum: u64, sinks: u32) -> Result<Option<Refusal>, Fail> {
-    let mut cells = places(heap, n)?;
-    let disk = Disk {
-        store: blocks(heap)?,
-        places: Bank::new(cells.as_mut_slice()),
-    };
-    let opened: Result<SpillPool<Notice>, Refusal> = SpillPool::open(&disk, 0, maximum, sinks);
-    match opened {
-        Ok(_) => Ok(None),
-        Err(why) => Ok(Some(why)),
-    }
+    let mut cells = memory(heap, n)?;
+    let disk = disk(heap, cells.as_mut_slice())?;
+    Ok(SpillPool::<Notice>::open(&disk, 0, maximum, sinks).err())
 }
 
 #[test]
@@ -202,13 +141,15 @@ fn openings(rt: HostRuntime) -> Result<(), Fail> {
     Ok(())
 }
 
-// The number of a notice that a poll gives, or 0.
-fn given<S: Store>(pool: &mut SpillPool<Notice>, disk: &mut Disk<S>) -> u64 {
-    let mut ids = Ids::new();
-    if let Ok(polled) = pool.poll(disk) {
-        note_polled(polled, &mut ids);
-    }
-    ids.list[0]
+// The number of the notice that a poll gives, if it gives one.
+fn given<S: Store>(
+    pool: &mut SpillPool<Notice>,
+    disk: &mut Disk<S>,
+) -> Result<Option<u64>, Refusal> {
+    Ok(match pool.poll(disk)? {
+        PoolPoll::Batch(notice) => Some(notice.id),
+        _ => None,
+    })
 }
 
 // What a poll answers, batches and faults aside.
@@ -217,45 +158,28 @@ enum Kind {
     Something,
     Wait,
     End,
-    Refused(u8),
 }
 
-fn kind_of(polled: PoolPoll<Notice>) -> Kind {
-    match polled {
-        PoolPoll::Batch(_) => Kind::Something,
-        PoolPoll::Faulty(_) => Kind::Something,
+fn poll_kind<S: Store>(pool: &mut SpillPool<Notice>, disk: &mut Disk<S>) -> Result<Kind, Refusal> {
+    Ok(match pool.poll(disk)? {
+        PoolPoll::Batch(_) | PoolPoll::Faulty(_) => Kind::Something,
         PoolPoll::Wait => Kind::Wait,
         PoolPoll::End => Kind::End,
-    }
-}
-
-fn poll_kind<S: Store>(pool: &mut SpillPool<Notice>, disk: &mut Disk<S>) -> Kind {
-    match pool.poll(disk) {
-        Ok(polled) => kind_of(polled),
-        Err(why) => Kind::Refused(why.number()),
-    }
+    })
 }
 
 // One place: the maximum is passed strictly, a second file wants a place, and a read frees it.
 #[test]
 fn places_run_out(rt: HostRuntime) -> Result<(), Fail> {
-    let mut cells = places(rt.alloc(), 1)?;
-    let mut disk = Disk {
-        store: blocks(rt.alloc())?,
-        places: Bank::new(cells.as_mut_slice()),
-    };
-    let Ok(mut pool) = SpillPool::open(&disk, 0, 100, 1) else {
-        return Err(Fail::new("no pool"));
-    };
+    let heap = rt.alloc();
+    let mut cells = memory(heap, 1)?;
+    let mut disk = disk(heap, cells.as_mut_slice())?;
+    let mut pool = SpillPool::open(&disk, 0, 100, 1)?;
     assert_eq!(rt; pool.push(&mut disk, &notice(1, 100)), Ok(Push::Kept(None)));
-    let Some(file) = pool.newest(&disk) else {
-        return Err(Fail::new("no file"));
-    };
+    let file = pool.newest(&disk).ok_or("no file")?;
     assert!(rt; !file.finished && !file.is_spent());
     assert_eq!(rt; pool.push(&mut disk, &notice(2, 1)), Ok(Push::Kept(None)));
-    let Some(file) = pool.newest(&disk) else {
-        return Err(Fail::new("no file"));
-    };
+    let file = pool.newest(&disk).ok_or("no file")?;
     assert!(rt; file.finished && file.written == 2 && file.sum == 101);
     assert_eq!(rt;
         pool.push(
@@ -269,7 +193,8 @@ fn places_run_out(rt: HostRuntime) -> Result<(), Fail> {
         Ok(Push::Skipped)
     );
     assert_eq!(rt; pool.push(&mut disk, &notice(3, 1)), Err(Refusal::Files));
-    assert!(rt; given(&mut pool, &mut disk) == 1 && given(&mut pool, &mut disk) == 2);
+    assert_eq!(rt; given(&mut pool, &mut disk), Ok(Some(1)));
+    assert_eq!(rt; given(&mut pool, &mut disk), Ok(Some(2)));
     assert_eq!(rt; pool.push(&mut disk, &notice(3, 1)), Ok(Push::Kept(None)));
     Ok(())
 }
@@ -277,44 +202,31 @@ fn places_run_out(rt: HostRuntime) -> Result<(), Fail> {
 // Places of another number are refused by every call, and so is a call without sinks.
 #[test]
 fn refusals(rt: HostRuntime) -> Result<(), Fail> {
-    let mut cells = places(rt.alloc(), 2)?;
-    let mut others = places(rt.alloc(), 3)?;
-    let mut disk = Disk {
-        store: blocks(rt.alloc())?,
-        places: Bank::new(cells.as_mut_slice()),
-    };
-    let mut other = Disk {
-        store: blocks(rt.alloc())?,
-        places: Bank::new(others.as_mut_slice()),
-    };
-    let Ok(mut pool) = SpillPool::open(&disk, 0, 100, 1) else {
-        return Err(Fail::new("no pool"));
-    };
+    let heap = rt.alloc();
+    let mut cells = memory(heap, 2)?;
+    let mut others = memory(heap, 3)?;
+    let mut other = disk(heap, others.as_mut_slice())?;
+    let mut disk = disk(heap, cells.as_mut_slice())?;
+    let mut pool = SpillPool::open(&disk, 0, 100, 1)?;
     assert_eq!(rt; pool.push(&mut other, &notice(1, 1)), Err(Refusal::Lengths));
-    assert_eq!(rt; poll_kind(&mut pool, &mut other), Kind::Refused(1));
+    assert_eq!(rt; poll_kind(&mut pool, &mut other), Err(Refusal::Lengths));
     assert_eq!(rt; pool.close_sink(&mut other), Err(Refusal::Lengths));
     assert_eq!(rt; pool.remove_all(&mut other), Err(Refusal::Lengths));
     assert_eq!(rt; pool.close_sink(&mut disk), Ok(None));
     assert_eq!(rt; pool.close_sink(&mut disk), Err(Refusal::Closed));
     assert_eq!(rt; pool.push(&mut disk, &notice(1, 1)), Err(Refusal::Closed));
-    assert_eq!(rt; poll_kind(&mut pool, &mut disk), Kind::End);
+    assert_eq!(rt; poll_kind(&mut pool, &mut disk), Ok(Kind::End));
     Ok(())
 }
 
 // Two pools share a disk: one that removes all its files leaves the other's.
 #[test]
 fn pools_share_a_disk(rt: HostRuntime) -> Result<(), Fail> {
-    let mut cells = places(rt.alloc(), 4)?;
-    let mut disk = Disk {
-        store: blocks(rt.alloc())?,
-        places: Bank::new(cells.as_mut_slice()),
-    };
-    let Ok(mut one) = SpillPool::open(&disk, 0, 0, 1) else {
-        return Err(Fail::new("no pool"));
-    };
-    let Ok(mut two) = SpillPool::open(&disk, 1, 0, 2) else {
-        return Err(Fail::new("no pool"));
-    };
+    let heap = rt.alloc();
+    let mut cells = memory(heap, 4)?;
+    let mut disk = disk(heap, cells.as_mut_slice())?;
+    let mut one = SpillPool::open(&disk, 0, 0, 1)?;
+    let mut two = SpillPool::open(&disk, 1, 0, 2)?;
     for id in 1..3 {
         assert_eq!(rt; one.push(&mut disk, &notice(id, 1)), Ok(Push::Kept(None)));
         assert_eq!(rt;
@@ -324,8 +236,9 @@ fn pools_share_a_disk(rt: HostRuntime) -> Result<(), Fail> {
     }
     assert_eq!(rt; one.remove_all(&mut disk), Ok(()));
     assert!(rt; one.oldest(&disk).is_none() && disk.places.free() == 2);
-    assert!(rt; given(&mut two, &mut disk) == 11 && given(&mut two, &mut disk) == 12);
-    assert_eq!(rt; poll_kind(&mut two, &mut disk), Kind::Wait);
+    assert_eq!(rt; given(&mut two, &mut disk), Ok(Some(11)));
+    assert_eq!(rt; given(&mut two, &mut disk), Ok(Some(12)));
+    assert_eq!(rt; poll_kind(&mut two, &mut disk), Ok(Kind::Wait));
     assert!(rt; disk.places.free() == 4 && is_bare(&mut disk.store));
     Ok(())
 }
@@ -334,9 +247,47 @@ fn pools_share_a_disk(rt: HostRuntime) -> Result<(), Fail> {
 #[test]
 fn faults(rt: HostRuntime) {
     let feed = Fault::of_feed(3, 255);
-    assert!(rt; feed.layer.number() == 1 && feed.call.number() == 0 && feed.file == 0);
-    assert!(rt; feed.partition == 3 && feed.cause == 255);
-    assert!(rt; Layer::Store.number() == 2 && StoreCall::Create.number() == 1);
-    assert!(rt; StoreCall::Append.number() == 2 && StoreCall::Finish.number() == 3);
-    assert!(rt; StoreCall::Read.number() == 4 && runs_stand() == 0);
+    assert!(rt; feed.layer.number() == 1 && feed.layer.call_number() == 0);
+    assert!(rt; feed.file() == None && feed.partition == 3 && feed.cause == 255);
+    assert_eq!(rt; Fault::of_store(0, StoreCall::Create, Cause::Device).file(), None);
+    assert_eq!(rt; Fault::of_store(0, StoreCall::Read(7), Cause::Device).file(), Some(7));
+    assert_eq!(rt; Layer::Store(StoreCall::Create).number(), 2);
+    assert_eq!(rt; Layer::Store(StoreCall::Finish(9)).call_number(), 3);
+    assert_eq!(rt; StoreCall::Create.number(), 1);
+    assert!(rt; StoreCall::Append(7).number() == 2 && StoreCall::Finish(7).number() == 3);
+    assert!(rt; StoreCall::Read(7).number() == 4 && runs_stand() == 0);
+}
+
+// Does the fault print as that text?
+fn reads_as(heap: Global, fault: Fault, text: &str) -> Result<bool, Fail> {
+    let printed = format!(in heap; "{fault}")?;
+    Ok(printed.as_str() == text)
+}
+
+// Faults, and what a write comes to as the answer of a push, in words.
+#[test]
+fn words(rt: HostRuntime) -> Result<(), Fail> {
+    let heap = rt.alloc();
+    let append = Fault::of_store(0, StoreCall::Append(3), Cause::NoSpace);
+    let finish = Fault::of_store(0, StoreCall::Finish(5), Cause::Device);
+    let create = Fault::of_store(0, StoreCall::Create, Cause::Device);
+    let read = Fault::of_store(0, StoreCall::Read(1), Cause::Misuse);
+    assert!(rt; reads_as(heap, Fault::of_feed(3, 255), "the feed fails, cause 255")?);
+    assert!(rt; reads_as(heap, create, "create fails, cause 3")?);
+    assert!(rt; reads_as(heap, append, "append to file 3 fails, cause 1")?);
+    assert!(rt; reads_as(heap, finish, "finish of file 5 fails, cause 3")?);
+    assert!(rt; reads_as(heap, read, "read of file 1 fails, cause 2")?);
+    assert_eq!(rt; Push::from(Ok(None)), Push::Kept(None));
+    let answers = format!(in heap;
+        "{}; {}; {}; {}",
+        Push::Skipped,
+        Push::from(Ok(None)),
+        Push::from(Ok(Some(finish))),
+        Push::from(Err(create))
+    )?;
+    assert_eq!(rt;
+        answers.as_str(),
+        "skipped; kept; kept, but finish of file 5 fails, cause 3; not kept, create fails, cause 3"
+    );
+    Ok(())
 }

@@ -16,10 +16,11 @@ use resources::receipt::{Left, Receipt, Seen};
 use resources::reservation::Reservation;
 use resources::store::Store;
 use resources::tripping::Tripping;
-use std::alloc::{AllocError, Global};
+use std::fmt::Display;
 use std::io;
 use stores::block::BlockStore;
 use stores::log::LogStore;
+use stores::logs::RECORD_LEAST;
 use stores::node::Node;
 
 // Fewer blocks than notices that need one.
@@ -37,221 +38,166 @@ const TRIPS: [u64; 6] = [1, 4, 8, 11, 12, 16];
 // How often a call is made before it is given up.
 const TRIES: usize = 3;
 
-// Where a batch went.
+// Where a batch is kept.
 #[derive(Clone, Copy)]
-enum Kept {
+enum Place {
     Memory,
     // the batch of that number in the file
     File(u32),
-    Nowhere,
 }
 
-// A batch that can be named in a line.
-trait Told: Payload {
-    fn told(&self, heap: Global) -> Result<String, AllocError>;
-}
-
-impl Told for Notice {
-    fn told(&self, heap: Global) -> Result<String, AllocError> {
-        let id = self.id;
-        let rows = self.rows;
-        let size = self.size;
-        format!(in heap; "notice {id} (rows {rows}, size {size})")
-    }
-}
-
-impl Told for Receipt {
-    fn told(&self, heap: Global) -> Result<String, AllocError> {
-        match self {
-            Receipt::Seen(seen) => {
-                let person = seen.person;
-                let line = seen.line;
-                format!(in heap; "person {person} saw line {line}")
-            }
-            Receipt::Left(left) => {
-                let person = left.person;
-                format!(in heap; "person {person} left")
+// Makes a call until it succeeds, and says why it fails: only a device may do better the next time, and after TRIES calls it is given up.
+fn insist<T: Drop, F: FnMut() -> Result<T, Cause>>(
+    rt: &HostRuntime,
+    name: &str,
+    mut call: F,
+) -> io::Result<Option<T>>
+    requires { F.IsAlwaysCallable call }
+{
+    for _ in 0..TRIES {
+        match call() {
+            Ok(answer) => return Ok(Some(answer)),
+            Err(cause) => {
+                println!(rt; "    {name} fails, {cause}")?;
+                if cause != Cause::Device {
+                    return Ok(None);
+                }
             }
         }
     }
+    Ok(None)
 }
 
-// Says why a call failed, and tells whether it is worth another try: only a device may do better the next time.
-fn again(rt: &HostRuntime, call: &str, cause: Cause) -> io::Result<bool> {
-    let number = cause.number();
-    println!(rt; "    {call} fails, cause {number}")?;
-    Ok(matches!(cause, Cause::Device))
-}
-
-// A file of a store, and how many batches were appended to it.
+// Batches on their way: to memory where the ceiling grants it, and else to a file of the store.
 #[derive(Drop)]
 struct Reel<'a, S> {
+    rt: &'a HostRuntime,
+    ceiling: &'a mut Ceiling,
     store: &'a mut S,
     file: u32,
+    // how many batches were appended to the file
     batches: u32,
 }
 
 impl<'a, S: Store> Reel<'a, S> {
-    // Makes a file.
-    fn create(rt: &HostRuntime, store: &'a mut S) -> io::Result<Option<Reel<'a, S>>> {
-        for _ in 0..TRIES {
-            match store.create() {
-                Ok(file) => {
-                    println!(rt; "    file {file} is made")?;
-                    return Ok(Some(Reel {
-                        store,
-                        file,
-                        batches: 0,
-                    }));
-                }
-                Err(cause) => {
-                    if !again(rt, "create", cause)? {
-                        return Ok(None);
-                    }
-                }
-            }
-        }
-        Ok(None)
+    // Makes the file.
+    fn create(
+        rt: &'a HostRuntime,
+        ceiling: &'a mut Ceiling,
+        store: &'a mut S,
+    ) -> anyhow::Result<Reel<'a, S>> {
+        let Some(file) = insist(rt, "create", || store.create())? else {
+            return Err(anyhow!("no file"));
+        };
+        println!(rt; "    file {file} is made")?;
+        Ok(Reel {
+            rt,
+            ceiling,
+            store,
+            file,
+            batches: 0,
+        })
     }
 
     // Appends a batch, and tells its number in the file.
-    fn append(&mut self, rt: &HostRuntime, words: &[u64]) -> io::Result<Kept> {
-        for _ in 0..TRIES {
-            match self.store.append(self.file, words) {
-                Ok(()) => {
-                    let batch = self.batches;
-                    self.batches = batch.saturating_add(1);
-                    return Ok(Kept::File(batch));
-                }
-                Err(cause) => {
-                    if !again(rt, "append", cause)? {
-                        return Ok(Kept::Nowhere);
-                    }
-                }
-            }
+    fn append(&mut self, words: &[u64]) -> io::Result<Option<u32>> {
+        let file = self.file;
+        let store = &mut *self.store;
+        if insist(self.rt, "append", || store.append(file, words))?.is_none() {
+            return Ok(None);
         }
-        Ok(Kept::Nowhere)
+        let batch = self.batches;
+        self.batches = batch.saturating_add(1);
+        Ok(Some(batch))
     }
 
     // Finishes the file.
-    fn finish(&mut self, rt: &HostRuntime) -> io::Result<()> {
-        for _ in 0..TRIES {
-            match self.store.finish(self.file) {
-                Ok(()) => {
-                    let file = self.file;
-                    let batches = self.batches;
-                    return println!(rt; "    file {file} is finished, batches {batches}");
-                }
-                Err(cause) => {
-                    if !again(rt, "finish", cause)? {
-                        return Ok(());
-                    }
-                }
-            }
+    fn finish(&mut self) -> io::Result<()> {
+        let rt = self.rt;
+        let file = self.file;
+        let store = &mut *self.store;
+        if insist(rt, "finish", || store.finish(file))?.is_some() {
+            println!(rt; "    file {file} is finished, batches {}", self.batches)?;
         }
         Ok(())
     }
 
-    // Reads a batch.
-    fn read<P: Payload>(&mut self, rt: &HostRuntime, batch: u32) -> io::Result<Option<P>> {
-        let mut place = [0; 64];
-        for _ in 0..TRIES {
-            match self.store.read(self.file, batch, &mut place) {
-                Ok(_) => return Ok(Some(P::read(&place))),
-                Err(cause) => {
-                    if !again(rt, "read", cause)? {
-                        return Ok(None);
-                    }
-                }
-            }
-        }
-        Ok(None)
+    // Reads a batch of the file.
+    fn read<P: Payload>(&mut self, batch: u32) -> io::Result<Option<P>> {
+        let file = self.file;
+        let store = &mut *self.store;
+        let mut place = [0; BATCH_WORDS];
+        let length = insist(self.rt, "read", || store.read(file, batch, &mut place))?;
+        Ok(length.map(|_| P::read(&place)))
     }
 
     // Removes the file.
-    fn remove(self, rt: &HostRuntime) -> io::Result<()> {
-        let file = self.file;
-        self.store.remove(file);
+    fn remove(self) -> io::Result<()> {
+        let Reel {
+            rt,
+            store,
+            file,
+            ..
+        } = self;
+        store.remove(file);
         println!(rt; "    file {file} is removed")
     }
-}
 
-// Holds the batch in memory if the ceiling grants its size, and else appends it to the file.
-fn keep<P: Told, S: Store>(
-    rt: &HostRuntime,
-    ceiling: &mut Ceiling,
-    reel: &mut Reel<S>,
-    batch: &P,
-) -> anyhow::Result<Kept> {
-    let name = batch.told(rt.alloc())?;
-    if ceiling.grow(u64::from(batch.size())) {
-        let held = ceiling.held();
-        println!(rt; "    {name}: in memory, held {held}")?;
-        return Ok(Kept::Memory);
-    }
-    let mut place = [0; 64];
-    batch.write(&mut place);
-    let length = P::width().min(BATCH_WORDS);
-    let kept = reel.append(rt, &place[..length])?;
-    match kept {
-        Kept::File(number) => println!(rt; "    {name}: batch {number} of the file")?,
-        _ => println!(rt; "    {name}: finds no place")?,
-    }
-    Ok(kept)
-}
-
-// Reads a batch back from the file.
-fn read_file<P: Told + Drop, S: Store>(
-    rt: &HostRuntime,
-    reel: &mut Reel<S>,
-    number: u32,
-) -> anyhow::Result<()> {
-    let Some(batch) = reel.read::<P>(rt, number)? else {
-        return Ok(println!(rt; "    batch {number} is not read")?);
-    };
-    let name = batch.told(rt.alloc())?;
-    Ok(println!(rt; "    from the file: {name}")?)
-}
-
-// Reads a batch back from where it went. What it held of memory is given back.
-fn read_back<P: Told + Drop, S: Store>(
-    rt: &HostRuntime,
-    ceiling: &mut Ceiling,
-    reel: &mut Reel<S>,
-    batch: &P,
-    kept: Kept,
-) -> anyhow::Result<()> {
-    let name = batch.told(rt.alloc())?;
-    match kept {
-        Kept::Memory => {
-            ceiling.shrink(u64::from(batch.size()));
-            let held = ceiling.held();
-            Ok(println!(rt; "    from memory: {name}, held {held}")?)
+    // Holds the batch in memory if the ceiling grants its size, and else appends it to the file.
+    fn keep<P: Payload + Display>(&mut self, batch: &P) -> io::Result<Option<Place>> {
+        let rt = self.rt;
+        if self.ceiling.grow(u64::from(batch.size())) {
+            println!(rt; "    {batch}: in memory, held {}", self.ceiling.held())?;
+            return Ok(Some(Place::Memory));
         }
-        Kept::File(number) => read_file::<P, S>(rt, reel, number),
-        Kept::Nowhere => Ok(println!(rt; "    {name} was not kept")?),
+        let mut place = [0; BATCH_WORDS];
+        batch.write(&mut place);
+        let number = self.append(&place[..P::WORDS])?;
+        match number {
+            Some(number) => println!(rt; "    {batch}: batch {number} of the file")?,
+            None => println!(rt; "    {batch}: finds no place")?,
+        }
+        Ok(number.map(Place::File))
+    }
+
+    // Reads a batch back from where it went. What it held of memory is given back.
+    fn read_back<P: Payload + Display + Drop>(
+        &mut self,
+        batch: &P,
+        place: Option<Place>,
+    ) -> io::Result<()> {
+        let rt = self.rt;
+        match place {
+            Some(Place::Memory) => {
+                self.ceiling.shrink(u64::from(batch.size()));
+                println!(rt; "    from memory: {batch}, held {}", self.ceiling.held())
+            }
+            Some(Place::File(number)) => match self.read::<P>(number)? {
+                Some(batch) => println!(rt; "    from the file: {batch}"),
+                None => println!(rt; "    batch {number} is not read"),
+            },
+            None => println!(rt; "    {batch} was not kept"),
+        }
     }
 }
 
 // Spools a list of batches and reads it back.
-fn spool<P: Told + Drop, S: Store>(
+fn spool<P: Payload + Display + Drop, S: Store>(
     rt: &HostRuntime,
     store: &mut S,
     ceiling: &mut Ceiling,
     batches: &[P],
 ) -> anyhow::Result<()> {
-    let Some(mut reel) = Reel::create(rt, store)? else {
-        return Err(anyhow!("no file"));
-    };
-    let mut kept = Vec::new(rt.alloc());
+    let mut reel = Reel::create(rt, ceiling, store)?;
+    let mut places = Vec::new(rt.alloc());
     for batch in batches {
-        kept.push(keep(rt, ceiling, &mut reel, batch)?)?;
+        places.push(reel.keep(batch)?)?;
     }
-    reel.finish(rt)?;
-    for (batch, place) in batches.iter().zip(kept.iter()) {
-        read_back(rt, ceiling, &mut reel, batch, *place)?;
+    reel.finish()?;
+    for (batch, place) in batches.iter().zip(places.iter()) {
+        reel.read_back(batch, *place)?;
     }
-    Ok(reel.remove(rt)?)
+    Ok(reel.remove()?)
 }
 
 // Spools the notices, and then the receipts, under one ceiling.
@@ -341,7 +287,7 @@ fn through_blocks(rt: &HostRuntime) -> anyhow::Result<()> {
 fn through_log(rt: &HostRuntime) -> anyhow::Result<()> {
     println!(rt; "a log store of {RUN_WORDS} words")?;
     let words = vec![in rt.alloc(); 0; RUN_WORDS]?;
-    let nodes = vec![in rt.alloc(); Node::new(); RUN_WORDS / 3]?;
+    let nodes = vec![in rt.alloc(); Node::new(); RUN_WORDS / RECORD_LEAST]?;
     let Ok(store) = LogStore::new(words, nodes) else {
         return Err(anyhow!("no log store"));
     };
@@ -353,11 +299,7 @@ fn through_log(rt: &HostRuntime) -> anyhow::Result<()> {
     Ok(println!(rt; "")?)
 }
 
-fn through_both(rt: &HostRuntime) -> anyhow::Result<()> {
-    through_blocks(rt)?;
-    through_log(rt)
-}
-
 fn main(rt: HostRuntime) -> anyhow::Result<()> {
-    through_both(&rt)
+    through_blocks(&rt)?;
+    through_log(&rt)
 }

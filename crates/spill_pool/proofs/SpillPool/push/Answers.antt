@@ -1,56 +1,59 @@
-use Rattle.std.proofs.Common.{true, sym, refl, ◌∙◌}
-use Rattle.std.proofs.lemmas.Bool.{both_ways, eq-eqb}
-use Rattle.bank.specs.Banks.{view}
-use Rattle.spill_pool.specs.Meaning.{Kind, Lawful, kind_by}
+use Rattle.std.proofs.Common.{sym, refl, ◌∙◌}
+use Rattle.std.proofs.lemmas.Result.{err_from_is_err_and}
+use Rattle.spill_pool.specs.Meaning.{Lawful, kind_of}
 use Rattle.spill_pool.proofs.Doing.{pushes_unfit, pushes_shut, pushes_skip, pushes_full, pushes_to_open, pushes_to_new, push-history, front_words}
 use Rattle.spill_pool.proofs.SpillPool.push.Given as given
 use Rattle.spill_pool.proofs.SpillPool.push.Goals as goal
 
--- the payload type by its meaning, and its laws
-abbrev kind : (g : given.Over) → Kind g.row.P.Denot
-kind g = kind_by g.P.Payload.width g.P.Payload.rows_of g.P.Payload.size_of g.P.Payload.words g.P.Payload.reading
-
-lawful : (g : given.Over) → Lawful (kind g)
+-- the laws of the payload type
+lawful : (g : given.Over) → Lawful (kind_of g.P.Payload)
 lawful g = record { narrow = g.met.P.Payload.narrow; long = g.met.P.Payload.long; back = g.met.P.Payload.back; small = λ x. (g.met.P.Payload.small x).1 }
 
-pub returns-then-self-size : goal.returns-then-self-size
-returns-then-self-size g c =
-    let l = pushes_unfit (kind g) (lawful g) c.args.batch.now c.args.self.now (view c.args.disk.now.places) (g.S.Store.files c.args.disk.now.store) (λ e. c.if-self-size.true (e ∙ sym c.size.ensures)) in
-    record { law = l; history = push-history (kind g) (lawful g) c.args.batch.now _ _ _ _ _ _ _ l; refused = λ _. (refl, refl, refl); unfit = λ _. refl; same = refl; steady = record { partition = refl; maximum = refl; places = refl; size = refl } }
+pub returns-in_err-fit-clause-law : goal.returns-in_err-fit-clause-law
+returns-in_err-fit-clause-law g c =
+    let p = err_from_is_err_and c.from_residual.result c.from_residual.ensures.1 in
+    rw (p.1, p.2, c.in_err-fit.ensures.0) (pushes_unfit (lawful g) c.args.batch.now _ _ _ c.in_err-fit.ensures.1)
 
-pub returns-then-self-eq0 : goal.returns-then-self-eq0
-returns-then-self-eq0 g c =
-    let f = c.if-self-size.false ∙ c.size.ensures in
-    let l = pushes_shut (kind g) (lawful g) c.args.batch.now c.args.self.now (view c.args.disk.now.places) (g.S.Store.files c.args.disk.now.store) f c.if-self-eq0.true in
-    record { law = l; history = push-history (kind g) (lawful g) c.args.batch.now _ _ _ _ _ _ _ l; refused = λ _. (refl, refl, refl); unfit = λ e. absurd (both_ways _ e (eq-eqb _ _ f)); same = refl; steady = record { partition = refl; maximum = refl; places = refl; size = refl } }
+pub returns-in_err-fit-clause-history : goal.returns-in_err-fit-clause-history
+returns-in_err-fit-clause-history g c = push-history (lawful g) c.args.batch.now _ _ _ _ _ _ _ (returns-in_err-fit-clause-law g c)
 
-pub returns-then-rows-eq0 : goal.returns-then-rows-eq0
-returns-then-rows-eq0 g c =
-    let f = c.if-self-size.false ∙ c.size.ensures in
-    let l = pushes_skip (kind g) (lawful g) c.args.batch.now c.args.self.now (view c.args.disk.now.places) (g.S.Store.files c.args.disk.now.store) f c.if-self-eq0.false (sym c.rows.ensures ∙ c.if-rows-eq0.true) in
-    record { law = l; history = push-history (kind g) (lawful g) c.args.batch.now _ _ _ _ _ _ _ l; refused = λ e. absurd (both_ways true e refl); unfit = λ e. absurd (both_ways _ e (eq-eqb _ _ f)); same = refl; steady = record { partition = refl; maximum = refl; places = refl; size = refl } }
+pub returns-then-self-eq0-clause-law : goal.returns-then-self-eq0-clause-law
+returns-then-self-eq0-clause-law g c =
+    pushes_shut (lawful g) c.args.batch.now _ _ _ c.in_ok-fit.ensures c.if-self-eq0.true
 
-pub returns-then-current : goal.returns-then-current
-returns-then-current g c =
-    let f = c.if-self-size.false ∙ c.size.ensures in
-    let l = pushes_to_open (kind g) (lawful g) c.args.batch.now c.args.self.now (view c.args.disk.now.places) (g.S.Store.files c.args.disk.now.store) f c.if-self-eq0.false (λ e. c.if-rows-eq0.false (c.rows.ensures ∙ e))
-    _ _ _ c.push_open-answer.result refl refl c.size-then-current.result _ c.size-then-current.ensures
-    (front_words c.width.result g.P.Payload.width (g.P.Payload.words c.args.batch.now) _ c.write.new.place c.write.ensures c.width.ensures (g.met.P.Payload.long c.args.batch.now))
-    c.if-current.true c.push_open-answer.ensures.law in
-    record { law = l; history = push-history (kind g) (lawful g) c.args.batch.now _ _ _ _ _ _ _ l; refused = λ e. absurd (both_ways true e refl); unfit = λ e. absurd (both_ways _ e (eq-eqb _ _ f)); same = c.push_open-answer.ensures.same; steady = record { partition = refl; maximum = refl; places = refl; size = c.push_open-answer.ensures.size } }
+pub returns-then-self-eq0-clause-history : goal.returns-then-self-eq0-clause-history
+returns-then-self-eq0-clause-history g c = push-history (lawful g) c.args.batch.now _ _ _ _ _ _ _ (returns-then-self-eq0-clause-law g c)
 
-pub returns-then-free-eq0 : goal.returns-then-free-eq0
-returns-then-free-eq0 g c =
-    let f = c.if-self-size.false ∙ c.size.ensures in
-    let l = pushes_full (kind g) (lawful g) c.args.batch.now c.args.self.now (view c.args.disk.now.places) (g.S.Store.files c.args.disk.now.store) f c.if-self-eq0.false (λ e. c.if-rows-eq0.false (c.rows.ensures ∙ e))
-    c.if-current.false (sym c.free.ensures.0 ∙ c.if-free-eq0.true) in
-    record { law = l; history = push-history (kind g) (lawful g) c.args.batch.now _ _ _ _ _ _ _ l; refused = λ _. (refl, refl, refl); unfit = λ e. absurd (both_ways _ e (eq-eqb _ _ f)); same = refl; steady = record { partition = refl; maximum = refl; places = refl; size = refl } }
+pub returns-then-rows-eq0-clause-law : goal.returns-then-rows-eq0-clause-law
+returns-then-rows-eq0-clause-law g c =
+    pushes_skip (lawful g) c.args.batch.now _ _ _ c.in_ok-fit.ensures c.if-self-eq0.false (sym c.rows.ensures ∙ c.if-rows-eq0.true)
 
-pub returns : goal.returns
-returns g c =
-    let f = c.if-self-size.false ∙ c.size.ensures in
-    let l = pushes_to_new (kind g) (lawful g) c.args.batch.now c.args.self.now (view c.args.disk.now.places) (g.S.Store.files c.args.disk.now.store) f c.if-self-eq0.false (λ e. c.if-rows-eq0.false (c.rows.ensures ∙ e))
-    _ _ _ c.push_new-answer.result refl refl c.size-2.result _ c.size-2.ensures
-    (front_words c.width.result g.P.Payload.width (g.P.Payload.words c.args.batch.now) _ c.write.new.place c.write.ensures c.width.ensures (g.met.P.Payload.long c.args.batch.now))
-    c.if-current.false (λ e. c.if-free-eq0.false (c.free.ensures.0 ∙ e)) c.push_new-answer.ensures.law in
-    record { law = l; history = push-history (kind g) (lawful g) c.args.batch.now _ _ _ _ _ _ _ l; refused = λ e. absurd (both_ways true e refl); unfit = λ e. absurd (both_ways _ e (eq-eqb _ _ f)); same = c.push_new-answer.ensures.same; steady = record { partition = refl; maximum = refl; places = refl; size = c.push_new-answer.ensures.size } }
+pub returns-then-rows-eq0-clause-history : goal.returns-then-rows-eq0-clause-history
+returns-then-rows-eq0-clause-history g c = push-history (lawful g) c.args.batch.now _ _ _ _ _ _ _ (returns-then-rows-eq0-clause-law g c)
+
+pub returns-then-free-eq0-clause-law : goal.returns-then-free-eq0-clause-law
+returns-then-free-eq0-clause-law g c =
+    pushes_full (lawful g) c.args.batch.now _ _ _ c.in_ok-fit.ensures c.if-self-eq0.false (λ e. c.if-rows-eq0.false (c.rows.ensures ∙ e)) c.in_default.is (sym c.free.ensures.0 ∙ c.if-free-eq0.true)
+
+pub returns-then-free-eq0-clause-history : goal.returns-then-free-eq0-clause-history
+returns-then-free-eq0-clause-history g c = push-history (lawful g) c.args.batch.now _ _ _ _ _ _ _ (returns-then-free-eq0-clause-law g c)
+
+pub returns-in_default-clause-law : goal.returns-in_default-clause-law
+returns-in_default-clause-law g c =
+    rw c.from.ensures (pushes_to_new (lawful g) c.args.batch.now _ _ _ c.in_ok-fit.ensures c.if-self-eq0.false (λ e. c.if-rows-eq0.false (c.rows.ensures ∙ e))
+    _ _ _ c.push_new-written.result refl refl c.size.result _ c.size.ensures
+    (front_words c.WORDS.result g.P.Payload.WORDS (g.P.Payload.words c.args.batch.now) _ c.write.new.place c.write.ensures c.WORDS.ensures (g.met.P.Payload.long c.args.batch.now))
+    c.in_default.is (λ e. c.if-free-eq0.false (c.free.ensures.0 ∙ e)) c.push_new-written.ensures.law)
+
+pub returns-in_default-clause-history : goal.returns-in_default-clause-history
+returns-in_default-clause-history g c = push-history (lawful g) c.args.batch.now _ _ _ _ _ _ _ (returns-in_default-clause-law g c)
+
+pub returns-clause-law : goal.returns-clause-law
+returns-clause-law g c =
+    rw c.from-2.ensures (pushes_to_open (lawful g) c.args.batch.now _ _ _ c.in_ok-fit.ensures c.if-self-eq0.false (λ e. c.if-rows-eq0.false (c.rows.ensures ∙ e))
+    _ _ _ c.push_open-written.result refl refl c.size.result _ c.size.ensures
+    (front_words c.WORDS.result g.P.Payload.WORDS (g.P.Payload.words c.args.batch.now) _ c.write.new.place c.write.ensures c.WORDS.ensures (g.met.P.Payload.long c.args.batch.now))
+    c.in-Some.kept c.in-Some.is c.push_open-written.ensures.law)
+
+pub returns-clause-history : goal.returns-clause-history
+returns-clause-history g c = push-history (lawful g) c.args.batch.now _ _ _ _ _ _ _ (returns-clause-law g c)
