@@ -19,7 +19,7 @@
 
 ghost use Rattle.std.specs.Prelude.{◌≡◌, length, count_by, Err as Bad};
 ghost use Rattle.bank.specs.Banks.{view, SameCells};
-ghost use Rattle.distributor_channels.specs.Calls.{records, record_open, facts, seen, Does, Chronicles, Kept, Unfit, Same, Steady, Opens, Recounts, within};
+ghost use Rattle.distributor_channels.specs.Calls.{records, tallied, record_open, facts, seen, Does, Chronicles, Kept, Unfit, Same, Steady, Opens, Recounts, within};
 ghost use Rattle.distributor_channels.specs.Histories.{sends, receives, closes_sender, closes_receiver};
 ghost use Rattle.distributor_channels.specs.Meaning.{on};
 ghost use Rattle.distributor_channels.specs.Naming.{Names, Empties};
@@ -157,6 +157,19 @@ impl Channel {
     }
 }
 
+// How many of these channels count as open.
+fn tally(table: &[Channel]) -> usize
+    ensures { result ≡ tallied table.now }
+{
+    let mut count = 0;
+    for channel in table {
+        if channel.is_open() {
+            count += 1;
+        }
+    }
+    count
+}
+
 // Are these lengths within their limits, and has the woken list room for all who could be named?
 fn within_limits(cells: usize, places: usize, woken: usize) -> bool
     ensures { result ≡ within cells places woken }
@@ -198,10 +211,7 @@ impl Channels {
     pub fn recount<T>(&self, memories: &Memories<T>) -> usize
         ensures { Recounts self.now (seen memories.now) result }
     {
-        self.table
-            .iter()
-            .filter(|channel| channel.is_open())
-            .count()
+        tally(self.table.as_slice())
     }
 
     // Are the memories as long as they were, and the woken list long enough?

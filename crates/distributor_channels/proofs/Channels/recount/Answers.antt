@@ -4,4 +4,4 @@ use Rattle.distributor_channels.proofs.Opening.{recounted}
 use Rattle.distributor_channels.proofs.Channels.recount.Goals as goal
 
 pub returns : goal.returns
-returns g c = recounted c.args.self.now (seen c.args.memories.now) c.count.result (search rules)
+returns g c = recounted c.args.self.now (seen c.args.memories.now) c.tally.result (search rules)
