@@ -226,6 +226,7 @@ fn spill<S: Store + Drop>(rt: &HostRuntime, store: S) -> anyhow::Result<()> {
     Ok(())
 }
 
+// Through a block store. `through_log` is its twin: one function for both would take the store's maker, and be no shorter.
 fn through_blocks(rt: &HostRuntime) -> anyhow::Result<()> {
     println!(rt; "a block store of {BLOCKS} blocks")?;
     let words = vec![in rt.alloc(); 0; BLOCKS * BATCH_WORDS]?;
@@ -236,6 +237,7 @@ fn through_blocks(rt: &HostRuntime) -> anyhow::Result<()> {
     spill(rt, store)
 }
 
+// Through a log store.
 fn through_log(rt: &HostRuntime) -> anyhow::Result<()> {
     println!(rt; "a log store of {RUN_WORDS} words")?;
     let words = vec![in rt.alloc(); 0; RUN_WORDS]?;

@@ -273,6 +273,7 @@ fn spool_tripping<S: Store + Drop>(rt: &HostRuntime, store: S) -> anyhow::Result
     Ok(tripping.into_below())
 }
 
+// Through a block store. `through_log` is its twin: one function for both would take the store's maker, and be no shorter.
 fn through_blocks(rt: &HostRuntime) -> anyhow::Result<()> {
     println!(rt; "a block store of {BLOCKS} blocks")?;
     let words = vec![in rt.alloc(); 0; BLOCKS * BATCH_WORDS]?;
@@ -284,6 +285,7 @@ fn through_blocks(rt: &HostRuntime) -> anyhow::Result<()> {
     Ok(())
 }
 
+// Through a log store.
 fn through_log(rt: &HostRuntime) -> anyhow::Result<()> {
     println!(rt; "a log store of {RUN_WORDS} words")?;
     let words = vec![in rt.alloc(); 0; RUN_WORDS]?;
