@@ -7,7 +7,7 @@ use Rattle.std.proofs.lemmas.List.{get_or-set_same, get_or-set_other, take_all, 
 use Rattle.std.proofs.lemmas.Option.{slice_get_within, get_or_from_slice_get}
 use Rattle.std.proofs.lemmas.Bool.{cases_eq, eq-eqb, ne_eqb, eqb-true, ltb-true, and_parts, both_ways}
 use Rattle.refusal.specs.declared.Refusal.{Refusal}
-use Rattle.refusal.specs.declared.Refusal.TheVariants.{Lengths, Range, Idle, Ending, Cells, Files, Places, Closed as Shut, Sending as Busy}
+use Rattle.refusal.specs.declared.Refusal.TheVariants.{Lengths, Range, Cells, Places}
 use Rattle.distributor_channels.specs.declared.Channels.{Channels}
 use Rattle.distributor_channels.specs.declared.SendPoll.TheVariants.{Sent, Wait, Closed}
 use Rattle.distributor_channels.specs.declared.ReceivePoll.TheVariants.{Element, End, Wait as Await}
@@ -93,33 +93,21 @@ cond_nil false = refl
 -- what the book gains by a poll of the room k
 abbrev pub delivers : ℕ → ReceiveAnswer ℕ → List Delivery
 delivers k (Ok (Element x _)) = record { room = k; id = x } ∷ []
-delivers k (Ok Await) = []
-delivers k (Ok End) = []
-delivers k (Err _) = []
+delivers k _ = []
 
 booked-delivers : (j k : ℕ) (ds : List Delivery) (r : ReceiveAnswer ℕ) → booked j (ds ++ delivers k r) ≡ booked j ds ++ cond (eqb k j) (gives r) []
 booked-delivers j k ds (Ok (Element x _)) = pushed (λ (d : Delivery). eqb d.room j) (λ d. d.id) ds (record { room = k; id = x })
-booked-delivers j k ds (Ok Await) = rw (append-nil ds, cond_nil) (sym (append-nil (booked j ds)))
-booked-delivers j k ds (Ok End) = rw (append-nil ds, cond_nil) (sym (append-nil (booked j ds)))
-booked-delivers j k ds (Err _) = rw (append-nil ds, cond_nil) (sym (append-nil (booked j ds)))
+booked-delivers j k ds _ = rw (append-nil ds, cond_nil) (sym (append-nil (booked j ds)))
 
 end_delivers : (k : ℕ) (r : ReceiveAnswer ℕ) → ends r ≡ true → delivers k r ≡ []
 end_delivers k (Ok (Element y _)) e = absurd (both_ways _ refl e)
-end_delivers k (Ok Await) e = refl
-end_delivers k (Ok End) e = refl
-end_delivers k (Err _) e = refl
+end_delivers k _ e = refl
 
 -- a refusal is passed on, but where only room was wanting
 refused_cases : (note : Notice) (why : Refusal) → (refused_as note why ≡ Ok (ours.Full note)) ⊎ (refused_as note why ≡ Err why)
-refused_cases note Lengths = inr refl
-refused_cases note Range = inr refl
-refused_cases note Shut = inr refl
-refused_cases note Busy = inr refl
-refused_cases note Idle = inr refl
-refused_cases note Ending = inr refl
-refused_cases note Files = inr refl
 refused_cases note Cells = inl refl
 refused_cases note Places = inl refl
+refused_cases note _ = inr refl
 
 -- a turn that is refused sends nothing
 pub not_sent : (r : Result Sending Refusal) (sent : List Notice) → IsErr r → sent_by r sent ≡ sent

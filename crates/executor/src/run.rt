@@ -70,6 +70,7 @@ impl From<Refusal> for Halt {
 }
 
 // A run over a floor: the notices that are to be delivered, to how many rooms, and who may be polled.
+// The runtime goes beside it to each method: as a field it would want a Drop written by hand, and the floor could not be moved out.
 #[derive(Drop)]
 struct Run<'a, 'n> {
     floor: Floor<'a>,

@@ -1,13 +1,12 @@
 use Rattle.std.proofs.Common.{◌≡◌, ℕ, ◌++◌, ◌∷◌, [], Ok, vec_items, refl, append-nil, rules}
 use Rattle.distributor_channels.specs.declared.ReceivePoll.{ReceivePoll}
-use Rattle.distributor_channels.specs.declared.ReceivePoll.TheVariants.{Element, End, Wait}
+use Rattle.distributor_channels.specs.declared.ReceivePoll.TheVariants.{Element}
 use Rattle.executor.proofs.Booking.{drained, delivers}
 use Rattle.executor.proofs.Floor.receive_next.Goals as goal
 
 delivers_none : (k : ℕ) (p : ReceivePoll ℕ) → ((x y : ℕ) → p ≡ Element x y → ⊥) → delivers k (Ok p) ≡ []
 delivers_none k (Element x y) ne = absurd (ne x y refl)
-delivers_none k Wait ne = refl
-delivers_none k End ne = refl
+delivers_none k _ ne = refl
 
 pub returns-in-Element-clause-law : goal.returns-in-Element-clause-law
 returns-in-Element-clause-law c = λ n v notices sent s.
