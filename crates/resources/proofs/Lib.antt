@@ -1,3 +1,1 @@
-pub mod Tenancies
-pub mod Changes
 pub mod Histories

@@ -1,7 +1,7 @@
 -- What a store means: files by number, each open or finished, each an ordered list of batches as words.
 -- Which answer comes is open: what a call leaves is a function of what was, the arguments and the answer, and a predicate says which
 -- answers what was allows. Assumes nothing.
-use Rattle.std.specs.Prelude.{◌≡◌, ℕ, ◌^◌, ◌<◌, Bool, true, false, cond, ◌&&◌, List, [], ◌∷◌, ◌++◌, length, drop, is_some, Some, None, Ok, Err, Option, Result, nat_eq, nat_le, nat_lt}
+use Rattle.std.specs.Prelude.{◌≡◌, ℕ, ◌^◌, ◌<◌, Bool, true, false, if◌then◌else◌, ◌&&◌, List, [], ◌∷◌, ◌++◌, length, drop, is_some, Some, None, Ok, Err, Option, Result, nat_eq, nat_le, nat_lt}
 use Rattle.std.specs.List.{slice_get}
 use Rattle.std.specs.Option.{option_map}
 use Rattle.resources.specs.declared.cause.Cause.{Cause}
@@ -18,7 +18,7 @@ Files = ℕ → Option File
 
 -- the file of one number becomes f, and no other changes
 abbrev pub put : Files → ℕ → Option File → Files
-put fs n f = λ q. cond (nat_eq q n) f (fs q)
+put fs n f = λ q. if nat_eq q n then f else fs q
 
 -- an open file without batches
 abbrev pub fresh : File
@@ -32,12 +32,12 @@ live_at (Some f) = f.live
 -- the file with one more batch
 abbrev pub extended : Option File → List ℕ → Option File
 extended None ws = None
-extended (Some f) ws = Some (record { live = f.live; batches = f.batches ++ ws ∷ [] })
+extended (Some f) ws = Some (record f { batches = f.batches ++ ws ∷ [] })
 
 -- the file, finished
 abbrev pub shut : Option File → Option File
 shut None = None
-shut (Some f) = Some (record { live = false; batches = f.batches })
+shut (Some f) = Some (record f { live = false })
 
 -- batch k, from 0
 abbrev pub batch_at : Option File → ℕ → Option (List ℕ)

@@ -1,12 +1,12 @@
 -- What happened to a store, call by call, and what its reads gave. Assumes nothing.
-use Rattle.std.specs.Prelude.{◌≡◌, ℕ, min, cond, List, [], ◌∷◌, ◌++◌, take, Some, None, Ok, Err, Option, Result, ◌==◌, ◌≢◌}
+use Rattle.std.specs.Prelude.{◌≡◌, ℕ, if◌then◌else◌, List, [], ◌∷◌, ◌++◌, Some, None, Ok, Err, Option, Result, ◌==◌, ◌≢◌}
 use Rattle.std.specs.List.{slice_get}
 use Rattle.resources.specs.declared.cause.Cause.{Cause}
-use Rattle.resources.specs.declared.runs.Batch.{Batch}
+use Rattle.arrayvec.specs.ArrayVec.{array_vec_len}
 use Rattle.resources.specs.declared.runs.Call.{Call}
 use Rattle.resources.specs.declared.runs.Call.TheVariants.{Create, Append, Finish, Read, Remove}
 use Rattle.resources.specs.declared.runs.Answer.{Answer}
-use Rattle.resources.specs.declared.runs.Answer.TheVariants.{Number, Done, Words, Failed}
+use Rattle.resources.specs.declared.runs.Answer.TheVariants.{Number, Done, Words}
 use Rattle.resources.specs.Files.{File, Files, put, fresh, extended, shut, batch_at, Ask, create, append, finish, read, remove, Reply, number, done, failed}
 
 -- what a call did; a call that failed did nothing
@@ -18,35 +18,17 @@ pub data Event : Type 0 where
   removed : ℕ → Event
   nothing : Event
 
--- the words of a batch
-abbrev pub words_of : Batch → List ℕ
-words_of b = take (min b.length 64) b.words
-
 -- what a call did, by its answer
-abbrev pub event : Call → Answer → Event
-event Create (Number n) = created n
-event Create Done = nothing
-event Create (Words b) = nothing
-event Create (Failed c) = nothing
-event (Append n b) (Number k) = nothing
-event (Append n b) Done = appended n (words_of b)
-event (Append n b) (Words d) = nothing
-event (Append n b) (Failed c) = nothing
-event (Finish n) (Number k) = nothing
-event (Finish n) Done = shutdown n
-event (Finish n) (Words b) = nothing
-event (Finish n) (Failed c) = nothing
-event (Read n k) (Number m) = nothing
-event (Read n k) Done = nothing
-event (Read n k) (Words b) = gave n k (words_of b)
-event (Read n k) (Failed c) = nothing
-event (Remove n) (Number k) = removed n
-event (Remove n) Done = removed n
-event (Remove n) (Words b) = removed n
-event (Remove n) (Failed c) = removed n
+abbrev pub event : Call → Result Answer Cause → Event
+event Create (Ok (Number n)) = created n
+event (Append n ws) (Ok Done) = appended n ws.now
+event (Finish n) (Ok Done) = shutdown n
+event (Read n k) (Ok (Words b)) = gave n k b.items
+event (Remove n) r = removed n
+event c r = nothing
 
 -- the events of calls and their answers, the newest first
-abbrev pub history : List Event → List Call → List Answer → List Event
+abbrev pub history : List Event → List Call → List (Result Answer Cause) → List Event
 history h [] rs = h
 history h (c ∷ cs) [] = h
 history h (c ∷ cs) (r ∷ rs) = history (event c r ∷ h) cs rs
@@ -62,11 +44,11 @@ held_by fs n = batches_of (fs n)
 -- the batches that the appends to a file gave since it was made or removed; before all, what it had
 abbrev pub appends : (ℕ → List (List ℕ)) → List Event → ℕ → List (List ℕ)
 appends old [] n = old n
-appends old (created m ∷ h) n = cond (n == m) [] (appends old h n)
-appends old (appended m ws ∷ h) n = cond (n == m) (appends old h n ++ ws ∷ []) (appends old h n)
+appends old (created m ∷ h) n = if n == m then [] else appends old h n
+appends old (appended m ws ∷ h) n = if n == m then appends old h n ++ ws ∷ [] else appends old h n
 appends old (shutdown m ∷ h) n = appends old h n
 appends old (gave m k ws ∷ h) n = appends old h n
-appends old (removed m ∷ h) n = cond (n == m) [] (appends old h n)
+appends old (removed m ∷ h) n = if n == m then [] else appends old h n
 appends old (nothing ∷ h) n = appends old h n
 
 -- every read gave what the append of that number in that file gave
@@ -88,31 +70,26 @@ Happens fs (gave n k ws) gs = (batch_at (fs n) k ≡ Some ws) × (gs ≡ fs)
 Happens fs (removed n) gs = gs ≡ put fs n None
 Happens fs nothing gs = gs ≡ fs
 
--- an answer without a value
-abbrev pub done_or : {U : Type 0} → Result U Cause → Answer
-done_or (Ok u) = Done
-done_or (Err c) = Failed c
-
 -- what a call asks of the store
 abbrev pub ask_of : Call → Ask
 ask_of Create = create
-ask_of (Append n b) = append n (words_of b)
+ask_of (Append n ws) = append n ws.now
 ask_of (Finish n) = finish n
 ask_of (Read n k) = read n k
 ask_of (Remove n) = remove n
 
 -- what the store replied, by the answer
-abbrev pub reply_of : Answer → Reply
-reply_of (Number n) = number n
-reply_of Done = done
-reply_of (Words b) = number b.length
-reply_of (Failed c) = failed c
+abbrev pub reply_of : Result Answer Cause → Reply
+reply_of (Ok (Number n)) = number n
+reply_of (Ok Done) = done
+reply_of (Ok (Words b)) = number (array_vec_len b)
+reply_of (Err c) = failed c
 
 -- one call of a store, by what its calls do: it was asked this, it replied that
-abbrev pub Asked : {S : Type 0} → (S → Ask → Reply → S → Type 0) → S → Call → Answer → S → Type 0
+abbrev pub Asked : {S : Type 0} → (S → Ask → Reply → S → Type 0) → S → Call → Result Answer Cause → S → Type 0
 Asked steps s c r t = steps s (ask_of c) (reply_of r) t
 
 -- calls with their answers, one after another, from one state of the store to another
-pub data Ran {S : Type 0} (steps : S → Ask → Reply → S → Type 0) (s : S) : List Call → List Answer → S → Type 0 where
+pub data Ran {S : Type 0} (steps : S → Ask → Reply → S → Type 0) (s : S) : List Call → List (Result Answer Cause) → S → Type 0 where
   none : Ran steps s [] [] s
-  more : {cs : List Call} {rs : List Answer} {t : S} → Ran steps s cs rs t → (c : Call) (r : Answer) (u : S) → Asked steps t c r u → Ran steps s (cs ++ c ∷ []) (rs ++ r ∷ []) u
+  more : {cs : List Call} {rs : List (Result Answer Cause)} {t : S} → Ran steps s cs rs t → (c : Call) (r : Result Answer Cause) (u : S) → Asked steps t c r u → Ran steps s (cs ++ c ∷ []) (rs ++ r ∷ []) u

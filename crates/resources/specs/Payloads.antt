@@ -1,5 +1,5 @@
 -- The words of the delivered payloads, and what words read back as. Assumes nothing.
-use Rattle.std.specs.Prelude.{ℕ, ◌%◌, ◌^◌, cond, List, [], ◌∷◌, ◌==◌, slice_index}
+use Rattle.std.specs.Prelude.{ℕ, ◌%◌, ◌^◌, if◌then◌else◌, List, [], ◌∷◌, ◌==◌, slice_index}
 use Rattle.std.proofs.Common.{mod-lt, lit<}
 use Rattle.resources.specs.declared.notice.Notice.{Notice}
 use Rattle.resources.specs.declared.receipt.Seen.{Seen}
@@ -39,7 +39,7 @@ left_read ws = record { person = slice_index ws 1 % 2 ^ 32; fits = mod-lt (slice
 
 -- a first word of 0 is a line seen, any other somebody who left
 abbrev pub receipt_read : List ℕ → Receipt
-receipt_read ws = cond (slice_index ws 0 == 0) (kinds.Seen (seen_read ws)) (kinds.Left (left_read ws))
+receipt_read ws = if slice_index ws 0 == 0 then kinds.Seen (seen_read ws) else kinds.Left (left_read ws)
 
 abbrev pub receipt_rows : Receipt → ℕ
 receipt_rows r = 1
