@@ -157,28 +157,22 @@ impl<S: Store> Session<'_, '_, S> {
     fn say_changes(&self, before: Ends) -> io::Result<()> {
         let rt = self.rt;
         let after = self.ends();
-        if let Some(FileRecord { number, .. }) = before.oldest
-            && !is_file(after.oldest, number)
+        if let Some(file) = before.oldest
+            && !is_file(after.oldest, file.number)
         {
-            println!(rt; "      file {number} goes")?;
+            println!(rt; "      file {} goes", file.number)?;
         }
-        let Some(
-            FileRecord {
-                number,
-                finished,
-                ..
-            },
-        ) = after.newest
-        else {
+        let Some(file) = after.newest else {
             return Ok(());
         };
+        let number = file.number;
         if !is_file(before.newest, number) {
             println!(rt; "      file {number} opens")?;
         }
         let was_finished = before
             .newest
-            .is_some_and(|file| file.number == number && file.finished);
-        if finished && !was_finished {
+            .is_some_and(|old| old.number == number && old.finished);
+        if file.finished && !was_finished {
             println!(rt; "      file {number} is finished")?;
         }
         Ok(())

@@ -38,7 +38,7 @@ pub struct Fault {
 }
 
 impl Layer {
-    // The number under which the layer is known.
+    // The number under which the layer is known: by a match, here and for a call, since `as u8` takes no variant that carries data.
     pub fn number(&self) -> u8
         ensures { result ≡ layer_number self.now }
     {

@@ -165,18 +165,21 @@ fn append_to<S: Store>(
 ) -> Result<(), Fault>
     ensures { Appends partition file words.now (S.Store.files store.old) (S.Store.files store.new) result }
 {
-    store.append(file, words).map_err(|cause| Fault::of_store(
-        partition,
-        StoreCall::Append(file),
-        cause,
-    ))
+    let call = StoreCall::Append(file);
+    store
+        .append(file, words)
+        .map_err(|cause| Fault::of_store(partition, call, cause))
 }
 
 // Finishes a file of the store, and tells the fault if that fails.
 fn finish<S: Store>(store: &mut S, partition: usize, file: u32) -> Option<Fault>
     ensures { Finishes partition file (S.Store.files store.old) (S.Store.files store.new) result }
 {
-    store.finish(file).err().map(|cause| Fault::of_store(partition, StoreCall::Finish(file), cause))
+    let call = StoreCall::Finish(file);
+    store
+        .finish(file)
+        .err()
+        .map(|cause| Fault::of_store(partition, call, cause))
 }
 
 // The file while it is written to: at the end it is open again, or left finished.
