@@ -18,8 +18,7 @@ use spill_pool::fault::Fault;
 use spill_pool::{Disk, FileRecord, PoolPoll, SpillPool};
 use std::{fmt, io};
 use stores::block::BlockStore;
-use stores::log::LogStore;
-use stores::logs::RECORD_LEAST;
+use stores::log::{LogStore, RECORD_LEAST};
 use stores::node::Node;
 
 // Blocks for three notices.

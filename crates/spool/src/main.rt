@@ -19,8 +19,7 @@ use resources::tripping::Tripping;
 use std::fmt::Display;
 use std::io;
 use stores::block::BlockStore;
-use stores::log::LogStore;
-use stores::logs::RECORD_LEAST;
+use stores::log::{LogStore, RECORD_LEAST};
 use stores::node::Node;
 
 // Fewer blocks than notices that need one.
