@@ -10,7 +10,7 @@ use Rattle.refusal.specs.declared.Refusal.{Refusal}
 use Rattle.refusal.specs.declared.Refusal.TheVariants.{Lengths, Range, Cells, Places}
 use Rattle.distributor_channels.specs.declared.Channels.{Channels}
 use Rattle.distributor_channels.specs.declared.SendPoll.TheVariants.{Sent, Wait, Closed}
-use Rattle.distributor_channels.specs.declared.ReceivePoll.TheVariants.{Element, End, Wait as Await}
+use Rattle.distributor_channels.specs.declared.ReceivePoll.TheVariants.{Element}
 use Rattle.distributor_channels.specs.Meaning.{Meaning, Facts, Out, none, chan, opened}
 use Rattle.distributor_channels.specs.Steps.{SendAnswer, ReceiveAnswer, CloseAnswer, send_step, receive_step, close_sender_step}
 use Rattle.distributor_channels.specs.Histories.{Event, sends, receives, closes_sender, Run, accepted, accepted_by, accepts, given, given_by, gives, heard, keeps_by, ends, left, opening}

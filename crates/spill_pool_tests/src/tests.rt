@@ -249,8 +249,14 @@ fn faults(rt: HostRuntime) {
     let feed = Fault::of_feed(3, 255);
     assert!(rt; feed.layer.number() == 1 && feed.layer.call_number() == 0);
     assert!(rt; feed.file() == None && feed.partition == 3 && feed.cause == 255);
-    assert_eq!(rt; Fault::of_store(0, StoreCall::Create, Cause::Device).file(), None);
-    assert_eq!(rt; Fault::of_store(0, StoreCall::Read(7), Cause::Device).file(), Some(7));
+    assert_eq!(rt;
+        Fault::of_store(0, StoreCall::Create, Cause::Device).file(),
+        None
+    );
+    assert_eq!(rt;
+        Fault::of_store(0, StoreCall::Read(7), Cause::Device).file(),
+        Some(7)
+    );
     assert_eq!(rt; Layer::Store(StoreCall::Create).number(), 2);
     assert_eq!(rt; Layer::Store(StoreCall::Finish(9)).call_number(), 3);
     assert_eq!(rt; StoreCall::Create.number(), 1);
