@@ -3,8 +3,9 @@
 // A refused call leaves everything as it was. Where several reasons hold, the one with the smallest number is given.
 #![tactic(auto)]
 
-ghost use Rattle.std.specs.Prelude.{◌≡◌};
+ghost use Rattle.std.specs.Prelude.{◌≡◌, Some};
 ghost use Rattle.refusal.specs.Numbers.{number_of};
+ghost use Rattle.refusal.specs.Texts.{refusal_text};
 
 use std::fmt;
 
@@ -41,6 +42,8 @@ impl Refusal {
 
 // As the programs print it.
 impl fmt::Display for Refusal {
+    ghost output = { λ why. Some (refusal_text why) };
+
     fn fmt<W: fmt::Write>(&self, f: &mut fmt::Formatter<W>) -> fmt::Result {
         write!(f, "refused {}", self.number())
     }
