@@ -211,6 +211,17 @@ module _ {T : Type 0} where
   none_long x xs e = let b = by_newest x xs in let u = b.1.0 in let z : ◌≡◌ {A = ℕ} 0 1 = cc in omega arith
 
   module _ (f : Queue) (cs : List (Cell T)) (q : Queue) (x : T) where
+    -- an empty queue has nothing to rewrite, whichever element is meant
+    pub rewrites_none : (which : List T → Option T) (after : List T → List T) → which [] ≡ None → q.len ≡ 0 → Rewrites which after (mem f cs) q x (mem f cs) (Err x)
+    rewrites_none which after en z qs xss k w i =
+        let ln = len_is (mem f cs) qs xss w k q i (list xss k) refl in
+        let e = nothing (list xss k) (omega arith) in
+        (λ y u. let v : which (list xss k) ≡ None = ap which e ∙ en in let c : ◌≡◌ {A = ℕ} 0 1 = cc in absurd (omega arith), λ _. (refl, refl))
+      where
+        nothing : (xs : List T) → length xs ≡ 0 → xs ≡ []
+        nothing [] h = refl
+        nothing (y ∷ ys) h = absurd (omega arith)
+
     module _ (ds : List (Cell T)) (j : Option ℕ) (r : Result T T) where
       -- an empty queue has nothing to rewrite
       nothing : (r ≡ Err x) × (ds ≡ cs) → (r ≡ Err x) × (mem f ds ≡ mem f cs)

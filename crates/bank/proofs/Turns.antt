@@ -98,6 +98,10 @@ module _ {T : Type 0} (f : T → Bool) where
         (rw (← c.1, ← append_assoc) (rw (here, set-set, set-set, c.0) at b.0), b.1 ∙ a.1)
 
     -- all turns
+    -- all turns
+    pub sift_all : (n k : ℕ) (m' : Mem T) (q' o' : Queue) → n ≡ k → Sifts f n m q o m' q' o' → Sifts f k m q o m' q' o'
+    sift_all n k m' q' o' e s = rw (← e) s
+
     pub sifted : (n : ℕ) (m' : Mem T) (q' o' : Queue) → o ≡ empty → q.len ≤ n → Sifts f n m q o m' q' o' → TakesOut f m q m' q' o'
     sifted n m' q' o' eo le s qs xss k w i =
         let w2 : Keeps m (o ∷ qs) ([] ∷ xss) = rw eo (keeps_front m qs xss w) in
