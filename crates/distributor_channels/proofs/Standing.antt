@@ -1,5 +1,5 @@
 -- What one changed record does to what is represented. Assumes nothing.
-use Rattle.std.proofs.Common.{◌≡◌, ℕ, zero, suc, ◌+◌, ◌<◌, ◌≤◌, Bool, true, false, ◌&&◌, eqb, List, [], ◌∷◌, ◌++◌, map, length, get_or, set, is_some, sym, refl, ap, ◌∙◌, arith, length-append, length-set}
+use Rattle.std.proofs.Common.{◌≡◌, ℕ, zero, suc, ◌+◌, ◌<◌, ◌≤◌, Bool, true, false, ◌&&◌, eqb, List, [], ◌∷◌, ◌++◌, map, length, get_or, set, take, is_some, sym, refl, ap, ◌∙◌, arith, length-append, length-set}
 use lib.ListN.{length-map}
 use Rattle.std.proofs.lemmas.List.{set-get_or, get_or_default, map-set, get_or-map, get_or_append_left, set-append_left}
 use Rattle.std.proofs.lemmas.Bool.{ne_eqb}
@@ -15,6 +15,13 @@ use Rattle.distributor_channels.specs.declared.Channel.{Channel}
 use Rattle.distributor_channels.specs.declared.Channels.{Channels}
 use Rattle.distributor_channels.specs.Meaning.{Chan, Meaning, bit, none, is_open, open_count, shut, chan}
 use Rattle.distributor_channels.specs.Calls.{records, shut_record, line_of, record_open, Others, Mark, mark_of, mark, Stands}
+
+-- a changed record among the first n
+pub take-set : {A : Type 0} (n : ℕ) (l : List A) (k : ℕ) (a : A) → take n (set l k a) ≡ set (take n l) k a
+take-set zero l k a = refl
+take-set (suc n) [] k a = refl
+take-set (suc n) (x ∷ xs) zero a = refl
+take-set (suc n) (x ∷ xs) (suc k) a = ap (λ ys. x ∷ ys) (take-set n xs k a)
 
 -- one of the lists in front, and those behind
 module _ {A B : Type 0} (f : A → B) (xs : List A) (zs : List B) (k : ℕ) (h : k < length xs) where
