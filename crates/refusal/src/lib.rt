@@ -9,26 +9,27 @@ ghost use Rattle.refusal.specs.Texts.{refusal_text};
 
 use std::fmt;
 
+// In the order of their numbers, which are from 1 on; `as u8` counts from 0.
 #[derive(Clone, Copy, PartialEq, Eq, Debug)]
 pub enum Refusal {
     // a memory is shorter or longer than it may be, or than it was at opening, or the woken list is too short
-    Lengths = 1,
+    Lengths,
     // a number in the call is out of its range
-    Range = 2,
+    Range,
     // the side that is called is closed
-    Closed = 3,
+    Closed,
     // a message is being sent
-    Sending = 4,
+    Sending,
     // nothing is being sent
-    Idle = 5,
+    Idle,
     // the ending was begun
-    Ending = 6,
+    Ending,
     // no message cell is free
-    Cells = 7,
+    Cells,
     // a file is needed, and no file place is free
-    Files = 8,
+    Files,
     // the caller would have to wait, and no waiting place is free
-    Places = 9,
+    Places,
 }
 
 impl Refusal {
@@ -36,7 +37,7 @@ impl Refusal {
     pub fn number(&self) -> u8
         ensures { result ≡ number_of self.now }
     {
-        *self as u8
+        *self as u8 + 1
     }
 }
 
