@@ -73,11 +73,11 @@ module _ (s : Setup) (r : FileRecord) (n : ℕ) (fs : Files) (b : Batch) (a : Re
   write_same = same_by a.append
 
 -- what a create that is told as made, or as failed, did
-made_by : (p n : ℕ) (fs gs : Files) (y : Result ℕ Cause) → CreateLawful fs y → Ok n ≡ fault_or p Create y → gs ≡ create_after fs y → CreateLawful fs (Ok n) × (gs ≡ create_after fs (Ok n))
+made_by : (p n : ℕ) (fs gs : Files) (y : Result ℕ Cause) → CreateLawful fs y → Ok n ≡ fault_or p Create 0 y → gs ≡ create_after fs y → CreateLawful fs (Ok n) × (gs ≡ create_after fs (Ok n))
 made_by p n fs gs (Ok m) l a g = let e : m ≡ n = cc in (subst (λ (u : ℕ). CreateLawful fs (Ok u)) e l, g ∙ ap (λ (u : ℕ). create_after fs (Ok u)) e)
 made_by p n fs gs (Err x) l a g = absurd (cc)
 
-unmade_by : (p : ℕ) (f : Fault) (fs gs : Files) (y : Result ℕ Cause) → CreateLawful fs y → Err f ≡ fault_or p Create y → gs ≡ create_after fs y → (x : Cause) × CreateLawful fs (Err x) × (gs ≡ fs) × (f ≡ store_fault p Create x)
+unmade_by : (p : ℕ) (f : Fault) (fs gs : Files) (y : Result ℕ Cause) → CreateLawful fs y → Err f ≡ fault_or p Create 0 y → gs ≡ create_after fs y → (x : Cause) × CreateLawful fs (Err x) × (gs ≡ fs) × (f ≡ store_fault p Create 0 x)
 unmade_by p f fs gs (Ok m) l a g = absurd (cc)
 unmade_by p f fs gs (Err x) l a g = (x, l, g, cc)
 
