@@ -21,6 +21,15 @@ use Rattle.spill_pool.proofs.Listing.{open_push, open_finished, open_none, all_p
 use Rattle.spill_pool.proofs.Settling.{spent_parts}
 use Rattle.spill_pool.proofs.Pushing.{last_parts}
 
+-- what a pool keeps of a file, with what was read of it, and finished if the file is, makes its record again
+pub record_current : (y : FileRecord) (rd : ℕ) → y.read ≡ rd → cond y.finished (ended (with_read (record_of (current_of y)) rd)) (with_read (record_of (current_of y)) rd) ≡ y
+record_current y rd e = cond_both y.finished _ _ (λ (u : FileRecord). u ≡ y) (by true) (by false)
+  where
+    by : (f : Bool) → y.finished ≡ f → ◌≡◌ {A = FileRecord} (record { number = y.number; written = y.written; read = rd; sum = y.sum; finished = f }) y
+    by f t =
+        ap (λ (u : Bool). record { number = y.number; written = y.written; read = rd; sum = y.sum; finished = u }) (sym t)
+        ∙ ap (λ (n : ℕ). record { number = y.number; written = y.written; read = n; sum = y.sum; finished = y.finished }) (sym e)
+
 -- what the pool keeps of the last file shows what is open behind finished files
 pub shows_listed : (before : List FileRecord) (y : FileRecord) (c : Option OpenFile) → AllByRecursion (λ x. x.finished ≡ true) before → c ≡ kept_of y → Shows c (open_file (listed before y))
 shows_listed before y c done e =
@@ -92,7 +101,7 @@ module _ (s : Setup) (size : ℕ) (ws : List ℕ) (d : Mem FileRecord) (q : Queu
         let light : c.sum < 2 ^ 41 = let a = l.good.sum in let b = ap (λ (u : OpenFile). u.sum) cx in omega arith in
         let v = (subst (λ (u : FileRecord). Writes s size ws u fs y gs r) made h) rows (Err Device) refl short light in
         let b = parcel rows size ws in
-        let rx : with_read (record_of c) x.read ≡ x = ap (λ (u : OpenFile). with_read (record_of u) x.read) cx ∙ ap (λ (f : Bool). record { number = x.number; written = x.written; read = x.read; sum = x.sum; finished = f }) (sym l.open') in
+        let rx : with_read (record_of c) x.read ≡ x = ap (λ (u : OpenFile). with_read (record_of u) x.read) cx ∙ sym (cond-false x.finished _ _ l.open') ∙ record_current x x.read refl in
         let z₀ = write_same s (record_of c) x.read fs b v.replies in
         let z₁ = subst (λ (u : FileRecord). Same s (record_of c) x.read fs b v.replies (write s (record_of c) fs b v.replies) (write s u fs b v.replies)) rx z₀ in
         let to = write s x fs b v.replies in
