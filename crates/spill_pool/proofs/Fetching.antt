@@ -124,10 +124,10 @@ module _ {P : Type 0} {k : Kind P} (law : Lawful k) (p : SpillPool P) (d : Mem F
         unfolding asked
         lawfully o m rep c l = subst (PollLawfulAt fs (asked c)) (sym (the_oldest o m rep).1) (subst (λ (i : ℕ). ReadLawful fs n.number i c) (same_index o m rep) l)
 
-        pub polls_faulty : (fs' : Files) (c : Cause) (t : Fault) → ReadLawful fs n.number idx (Err c) → fs' ≡ fs → t ≡ store_fault p.setup.partition (Read n.number) c → Polls k p d fs p d fs' (Ok (Faulty t))
+        pub polls_faulty : (fs' : Files) (c : Cause) (t : Fault) → ReadLawful fs n.number idx (Err c) → fs' ≡ fs → t ≡ store_fault p.setup.partition Read n.number c → Polls k p d fs p d fs' (Ok (Faulty t))
         polls_faulty fs' c t l es et o m rep =
             does_by PollLawful step k.width p d fs (Ok (Faulty t)) o m rep p d fs' (asked (Err c)) (lawfully o m rep (Err c) l)
-            (out (Ok (Faulty (store_fault p.setup.partition (Read n.number) c))) m fs) (reads o m rep (Err c)) (ap (λ (u : Fault). Ok (Faulty u)) et) es rep.files rep.current rep.sinks refl rep.sound
+            (out (Ok (Faulty (store_fault p.setup.partition Read n.number c))) m fs) (reads o m rep (Err c)) (ap (λ (u : Fault). Ok (Faulty u)) et) es rep.files rep.current rep.sinks refl rep.sound
             (record { others = λ _ _ _. refl; gone = λ j a b. absurd (both_ways _ b a); new = λ j a b. absurd (both_ways _ a b) })
 
         -- the batch is read, and the record goes on

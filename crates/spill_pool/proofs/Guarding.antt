@@ -23,12 +23,12 @@ leave c written sum back = record { number = c.number; written = written; read =
 
 module _ (s : Setup) (size : ℕ) (ws : List ℕ) (c : FileRecord) (fs gs : Files) (q : Result (Unit {0}) Fault) (h : Appends s.partition c.number ws fs gs q) where
   module _ (e : Fault) (was : q ≡ Err e) (c' : FileRecord) (left : c' ≡ leave c c.written c.sum false) where
-    failed_by : (rows : ℕ) (create : Result ℕ Cause) (y : Result (Unit {0}) Cause) → AppendLawful fs c.number ws y → q ≡ fault_or s.partition (Append c.number) y → gs ≡ append_after fs c.number ws y →
+    failed_by : (rows : ℕ) (create : Result ℕ Cause) (y : Result (Unit {0}) Cause) → AppendLawful fs c.number ws y → q ≡ fault_or s.partition Append c.number y → gs ≡ append_after fs c.number ws y →
         WritesBy s (parcel rows size ws) create c fs c' gs (Err e)
     unfolding write
     failed_by rows create (Ok u) l a g = absurd (cc)
     failed_by rows create (Err x) l a g =
-        let es : e ≡ store_fault s.partition (Append c.number) x = cc in
+        let es : e ≡ store_fault s.partition Append c.number x = cc in
         record { replies = replies create (Err x) (Err Device); made = refl; lawful = (l, tt); answer = ap Failed es; file = left; store = g }
 
     pub writes_failed : Writes s size ws c fs c' gs (Err e)
@@ -47,7 +47,7 @@ module _ (s : Setup) (size : ℕ) (ws : List ℕ) (c : FileRecord) (fs gs : File
       full_is full e = ap (λ (x : ℕ). ltb s.maximum x || leb (2 ^ 32) (c.written + 1)) (sym ns) ∙ ap (λ (x : ℕ). ltb s.maximum sum || leb (2 ^ 32) x) (sym nw) ∙ sym e
 
     module _ (c' : FileRecord) (left : c' ≡ leave c written sum true) (none : (ltb s.maximum sum || leb (2 ^ 32) written) ≡ false) where
-      kept_by : (rows : ℕ) (create : Result ℕ Cause) → c.finished ≡ false → c.written < 2 ^ 32 → c.sum < 2 ^ 41 → (y : Result (Unit {0}) Cause) → AppendLawful fs c.number ws y → q ≡ fault_or s.partition (Append c.number) y → gs ≡ append_after fs c.number ws y →
+      kept_by : (rows : ℕ) (create : Result ℕ Cause) → c.finished ≡ false → c.written < 2 ^ 32 → c.sum < 2 ^ 41 → (y : Result (Unit {0}) Cause) → AppendLawful fs c.number ws y → q ≡ fault_or s.partition Append c.number y → gs ≡ append_after fs c.number ws y →
           WritesBy s (parcel rows size ws) create c fs c' gs (Ok None)
       unfolding write
       kept_by rows create open' short light (Ok v) l a g =
@@ -69,7 +69,7 @@ module _ (s : Setup) (size : ℕ) (ws : List ℕ) (c : FileRecord) (fs gs : File
       writes_kept rows create open' short light = kept_by rows create open' short light h.reply h.lawful h.answer h.store
 
     module _ (c' : FileRecord) (left : c' ≡ leave c written sum false) (yes : (ltb s.maximum sum || leb (2 ^ 32) written) ≡ true) (hs : Files) (t : Option Fault) (k : Finishes s.partition c.number gs hs t) where
-      full_by : (rows : ℕ) (create : Result ℕ Cause) → c.finished ≡ false → c.written < 2 ^ 32 → c.sum < 2 ^ 41 → (y : Result (Unit {0}) Cause) → AppendLawful fs c.number ws y → q ≡ fault_or s.partition (Append c.number) y → gs ≡ append_after fs c.number ws y →
+      full_by : (rows : ℕ) (create : Result ℕ Cause) → c.finished ≡ false → c.written < 2 ^ 32 → c.sum < 2 ^ 41 → (y : Result (Unit {0}) Cause) → AppendLawful fs c.number ws y → q ≡ fault_or s.partition Append c.number y → gs ≡ append_after fs c.number ws y →
           WritesBy s (parcel rows size ws) create c fs c' hs (Ok t)
       unfolding write
       full_by rows create open' short light (Ok v) l a g =

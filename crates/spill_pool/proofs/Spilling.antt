@@ -21,6 +21,15 @@ use Rattle.spill_pool.proofs.Listing.{open_push, open_finished, open_none, all_p
 use Rattle.spill_pool.proofs.Settling.{spent_parts}
 use Rattle.spill_pool.proofs.Pushing.{last_parts}
 
+-- what a pool keeps of a file, with what was read of it, and finished if the file is, makes its record again
+pub record_current : (y : FileRecord) (rd : ℕ) → y.read ≡ rd → cond y.finished (ended (with_read (record_of (current_of y)) rd)) (with_read (record_of (current_of y)) rd) ≡ y
+record_current y rd e = cond_both y.finished _ _ (λ (u : FileRecord). u ≡ y) (by true) (by false)
+  where
+    by : (f : Bool) → y.finished ≡ f → ◌≡◌ {A = FileRecord} (record { number = y.number; written = y.written; read = rd; sum = y.sum; finished = f }) y
+    by f t =
+        ap (λ (u : Bool). record { number = y.number; written = y.written; read = rd; sum = y.sum; finished = u }) (sym t)
+        ∙ ap (λ (n : ℕ). record { number = y.number; written = y.written; read = n; sum = y.sum; finished = y.finished }) (sym e)
+
 -- what the pool keeps of the last file shows what is open behind finished files
 pub shows_listed : (before : List FileRecord) (y : FileRecord) (c : Option OpenFile) → AllByRecursion (λ x. x.finished ≡ true) before → c ≡ kept_of y → Shows c (open_file (listed before y))
 shows_listed before y c done e =
@@ -73,11 +82,11 @@ module _ (s : Setup) (r : FileRecord) (n : ℕ) (fs : Files) (b : Batch) (a : Re
   write_same = same_by a.append
 
 -- what a create that is told as made, or as failed, did
-made_by : (p n : ℕ) (fs gs : Files) (y : Result ℕ Cause) → CreateLawful fs y → Ok n ≡ fault_or p Create y → gs ≡ create_after fs y → CreateLawful fs (Ok n) × (gs ≡ create_after fs (Ok n))
+made_by : (p n : ℕ) (fs gs : Files) (y : Result ℕ Cause) → CreateLawful fs y → Ok n ≡ fault_or p Create 0 y → gs ≡ create_after fs y → CreateLawful fs (Ok n) × (gs ≡ create_after fs (Ok n))
 made_by p n fs gs (Ok m) l a g = let e : m ≡ n = cc in (subst (λ (u : ℕ). CreateLawful fs (Ok u)) e l, g ∙ ap (λ (u : ℕ). create_after fs (Ok u)) e)
 made_by p n fs gs (Err x) l a g = absurd (cc)
 
-unmade_by : (p : ℕ) (f : Fault) (fs gs : Files) (y : Result ℕ Cause) → CreateLawful fs y → Err f ≡ fault_or p Create y → gs ≡ create_after fs y → (x : Cause) × CreateLawful fs (Err x) × (gs ≡ fs) × (f ≡ store_fault p Create x)
+unmade_by : (p : ℕ) (f : Fault) (fs gs : Files) (y : Result ℕ Cause) → CreateLawful fs y → Err f ≡ fault_or p Create 0 y → gs ≡ create_after fs y → (x : Cause) × CreateLawful fs (Err x) × (gs ≡ fs) × (f ≡ store_fault p Create 0 x)
 unmade_by p f fs gs (Ok m) l a g = absurd (cc)
 unmade_by p f fs gs (Err x) l a g = (x, l, g, cc)
 
@@ -92,7 +101,7 @@ module _ (s : Setup) (size : ℕ) (ws : List ℕ) (d : Mem FileRecord) (q : Queu
         let light : c.sum < 2 ^ 41 = let a = l.good.sum in let b = ap (λ (u : OpenFile). u.sum) cx in omega arith in
         let v = (subst (λ (u : FileRecord). Writes s size ws u fs y gs r) made h) rows (Err Device) refl short light in
         let b = parcel rows size ws in
-        let rx : with_read (record_of c) x.read ≡ x = ap (λ (u : OpenFile). with_read (record_of u) x.read) cx ∙ ap (λ (f : Bool). record { number = x.number; written = x.written; read = x.read; sum = x.sum; finished = f }) (sym l.open') in
+        let rx : with_read (record_of c) x.read ≡ x = ap (λ (u : OpenFile). with_read (record_of u) x.read) cx ∙ sym (cond-false x.finished _ _ l.open') ∙ record_current x x.read refl in
         let z₀ = write_same s (record_of c) x.read fs b v.replies in
         let z₁ = subst (λ (u : FileRecord). Same s (record_of c) x.read fs b v.replies (write s (record_of c) fs b v.replies) (write s u fs b v.replies)) rx z₀ in
         let to = write s x fs b v.replies in

@@ -55,23 +55,23 @@ abbrev pub outcome : Result (Option Fault) Fault → Push
 outcome (Ok t) = Kept t
 outcome (Err e) = Failed e
 
--- an answer of the store, with its cause told as a fault of that call
-abbrev pub fault_or : {A : Type 0} → ℕ → StoreCall → Result A Cause → Result A Fault
-fault_or p call (Ok x) = Ok x
-fault_or p call (Err c) = Err (store_fault p call c)
+-- an answer of the store, with its cause told as a fault of that call on that file
+abbrev pub fault_or : {A : Type 0} → ℕ → StoreCall → ℕ → Result A Cause → Result A Fault
+fault_or p call file (Ok x) = Ok x
+fault_or p call file (Err c) = Err (store_fault p call file c)
 
 -- a create, by some lawful answer of the store
 pub record Creates (p : ℕ) (fs fs' : Files) (r : Result ℕ Fault) : Type 0 where
   pub reply : Result ℕ Cause
   pub lawful : CreateLawful fs reply
-  pub answer : r ≡ fault_or p Create reply
+  pub answer : r ≡ fault_or p Create 0 reply
   pub store : fs' ≡ create_after fs reply
 
 -- an append, by some lawful answer of the store
 pub record Appends (p n : ℕ) (ws : List ℕ) (fs fs' : Files) (r : Result (Unit {0}) Fault) : Type 0 where
   pub reply : Result (Unit {0}) Cause
   pub lawful : AppendLawful fs n ws reply
-  pub answer : r ≡ fault_or p (Append n) reply
+  pub answer : r ≡ fault_or p Append n reply
   pub store : fs' ≡ append_after fs n ws reply
 
 -- a finish, by some lawful answer of the store

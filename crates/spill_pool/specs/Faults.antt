@@ -5,39 +5,36 @@ use Rattle.resources.specs.Causes.{cause_number}
 use Rattle.spill_pool.specs.declared.fault.Layer.{Layer}
 use Rattle.spill_pool.specs.declared.fault.Layer.TheVariants.{Feed, Store}
 use Rattle.spill_pool.specs.declared.fault.StoreCall.{StoreCall}
-use Rattle.spill_pool.specs.declared.fault.StoreCall.TheVariants.{Create, Append, Finish, Read}
+use Rattle.spill_pool.specs.declared.fault.StoreCall.TheVariants.{NoCall, Create, Append, Finish, Read}
 use Rattle.spill_pool.specs.declared.fault.Fault.{Fault}
 
 abbrev pub layer_number : Layer → ℕ
 layer_number Feed = 1
-layer_number (Store call) = 2
+layer_number Store = 2
 
-abbrev pub store_number : StoreCall → ℕ
-store_number Create = 1
-store_number (Append file) = 2
-store_number (Finish file) = 3
-store_number (Read file) = 4
+abbrev pub call_number : StoreCall → ℕ
+call_number NoCall = 0
+call_number Create = 1
+call_number Append = 2
+call_number Finish = 3
+call_number Read = 4
 
--- 0 where no call failed
-abbrev pub call_number : Layer → ℕ
-call_number Feed = 0
-call_number (Store call) = store_number call
-
--- the file on which the call was made, if it was made on one
-abbrev pub layer_file : Layer → Option ℕ
-layer_file Feed = None
-layer_file (Store Create) = None
-layer_file (Store (Append file)) = Some file
-layer_file (Store (Finish file)) = Some file
-layer_file (Store (Read file)) = Some file
+-- the file on which a call was made, if it was made on one
+abbrev pub call_file : Layer → StoreCall → ℕ → Option ℕ
+call_file Feed call file = None
+call_file Store NoCall file = None
+call_file Store Create file = None
+call_file Store Append file = Some file
+call_file Store Finish file = Some file
+call_file Store Read file = Some file
 
 abbrev pub file_of : Fault → Option ℕ
-file_of f = layer_file f.layer
+file_of f = call_file f.layer f.call f.file
 
--- a store's call failed with a cause
-abbrev pub store_fault : ℕ → StoreCall → Cause → Fault
-store_fault p call c = record { layer = Store call; partition = p; cause = cause_number c }
+-- a store's call on a file failed with a cause
+abbrev pub store_fault : ℕ → StoreCall → ℕ → Cause → Fault
+store_fault p call file c = record { layer = Store; partition = p; call = call; file = file; cause = cause_number c }
 
 -- a feed failed with a cause
 abbrev pub feed_fault : ℕ → ℕ → Fault
-feed_fault p cause = record { layer = Feed; partition = p; cause = cause }
+feed_fault p cause = record { layer = Feed; partition = p; call = NoCall; file = 0; cause = cause }

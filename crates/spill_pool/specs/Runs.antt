@@ -56,7 +56,7 @@ FailedAppend = (a b c : ℕ) →
     let u = polled z.next z.store in
     let v = polled u.next u.store in
     let w = polled v.next v.store in
-    (x.answer ≡ Ok (Kept None)) × (y.answer ≡ Ok (Failed (store_fault 0 (Append 7) Device))) × (z.answer ≡ Ok (Kept None))
+    (x.answer ≡ Ok (Kept None)) × (y.answer ≡ Ok (Failed (store_fault 0 Append 7 Device))) × (z.answer ≡ Ok (Kept None))
     × (u.answer ≡ Ok (Given a)) × (v.answer ≡ Ok (Given c)) × (w.answer ≡ Ok Wait)
 
 -- the worked runs as one list

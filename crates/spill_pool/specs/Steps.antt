@@ -44,7 +44,7 @@ swept fs r = cond (is_spent r) (remove_after fs r.number) fs
 -- a fault of finish, if there is one
 abbrev pub told : ℕ → ℕ → Result (Unit {0}) Cause → Option Fault
 told p n (Ok u) = None
-told p n (Err c) = Some (store_fault p (Finish n) c)
+told p n (Err c) = Some (store_fault p Finish n c)
 
 -- what a write comes to: the answer, the file's record, and the store's files
 pub record Written : Type 0 where
@@ -61,7 +61,7 @@ rotate s r fs finish = cond (is_full s r)
 -- after a failed append the file is finished without a call, and the batch is not kept
 abbrev pub write_by : Setup → FileRecord → Files → Batch → Replies → Result (Unit {0}) Cause → Written
 write_by s r fs b a (Ok u) = rotate s (grown r b.size) (append_after fs r.number b.words (Ok u)) a.finish
-write_by s r fs b a (Err c) = record { answer = Failed (store_fault s.partition (Append r.number) c); file = ended r; store = fs }
+write_by s r fs b a (Err c) = record { answer = Failed (store_fault s.partition Append r.number c); file = ended r; store = fs }
 
 unfoldable pub write : Setup → FileRecord → Files → Batch → Replies → Written
 write s r fs b a = write_by s r fs b a a.append
@@ -73,7 +73,7 @@ settle before n w = out (Ok w.answer) (pool (listed before w.file) n) (swept w.s
 -- a failed create leaves no file
 abbrev pub push_new : Setup → Pool → Files → Batch → Replies → Result ℕ Cause → Out (Result Push Refusal)
 push_new s m fs b a (Ok n) = settle m.files m.sinks (write s (new_file n) (create_after fs (Ok n)) b a)
-push_new s m fs b a (Err c) = out (Ok (Failed (store_fault s.partition Create c))) m fs
+push_new s m fs b a (Err c) = out (Ok (Failed (store_fault s.partition Create 0 c))) m fs
 
 abbrev pub push_to : Setup → Facts → Pool → Files → Batch → Replies → Option FileRecord → Out (Result Push Refusal)
 push_to s f m fs b a (Some r) = settle (older m.files) m.sinks (write s r fs b a)
@@ -113,7 +113,7 @@ module _ {P : Type 0} where
   -- a fault moves nothing
   abbrev pub read_by : Setup → (List ℕ → P) → Pool → Files → FileRecord → List FileRecord → Result ℕ Cause → Out (Result (PoolPoll P) Refusal)
   read_by s reading m fs r rs (Ok n) = out (Ok (Given (reading (words_or (batch_at (fs r.number) r.read))))) (pool (ahead (advanced r) rs) m.sinks) (swept fs (advanced r))
-  read_by s reading m fs r rs (Err c) = out (Ok (Faulty (store_fault s.partition (Read r.number) c))) m fs
+  read_by s reading m fs r rs (Err c) = out (Ok (Faulty (store_fault s.partition Read r.number c))) m fs
 
   abbrev pub poll_of : Setup → (List ℕ → P) → Pool → Files → Replies → List FileRecord → Out (Result (PoolPoll P) Refusal)
   poll_of s reading m fs a [] = out (Ok (rest m)) m fs

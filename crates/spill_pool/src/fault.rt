@@ -1,8 +1,8 @@
 // A fault: what failed, where, and why.
 ghost use Rattle.std.specs.Prelude.{◌≡◌, Some};
 ghost use Rattle.resources.specs.declared.cause.Cause.{Cause as StoreCause};
-ghost use Rattle.spill_pool.specs.Faults.{layer_number, call_number, store_number, file_of, store_fault, feed_fault};
-ghost use Rattle.spill_pool.specs.Texts.{call_text, layer_text, fault_text};
+ghost use Rattle.spill_pool.specs.Faults.{layer_number, call_number, file_of, store_fault, feed_fault};
+ghost use Rattle.spill_pool.specs.Texts.{call_text, layer_text, subject_text, fault_text};
 
 use resources::cause::Cause;
 use std::fmt;
@@ -12,88 +12,86 @@ use std::fmt;
 pub enum Layer {
     // 1
     Feed,
-    // 2: a call of the store
-    Store(StoreCall),
+    // 2
+    Store,
 }
 
-// The call of the store that failed, with the number of the file on which it was made.
+// The call of the store that failed.
 #[derive(Clone, Copy, PartialEq, Eq, Debug)]
 pub enum StoreCall {
+    // 0: a feed failed, and no call
+    NoCall,
     // 1
     Create,
     // 2
-    Append(u32),
+    Append,
     // 3
-    Finish(u32),
+    Finish,
     // 4
-    Read(u32),
+    Read,
 }
 
 #[derive(Clone, Copy, PartialEq, Eq, Debug)]
 pub struct Fault {
     pub layer: Layer,
     pub partition: usize,
+    pub call: StoreCall,
+    // the number of the file, 0 for a feed and for create; `file()` tells none there
+    pub file: u32,
     // 1 to 255
     pub cause: u8,
 }
 
 impl Layer {
-    // The number under which the layer is known: by a match, here and for a call, since `as u8` takes no variant that carries data.
+    // The number under which the layer is known: by a match, since `as u8` counts from 0.
     pub fn number(&self) -> u8
         ensures { result ≡ layer_number self.now }
     {
         match self {
             Layer::Feed => 1,
-            Layer::Store(_) => 2,
-        }
-    }
-
-    // The number of the call that failed, 0 where a feed failed.
-    pub fn call_number(&self) -> u8
-        ensures { result ≡ call_number self.now }
-    {
-        match self {
-            Layer::Feed => 0,
-            Layer::Store(call) => call.number(),
+            Layer::Store => 2,
         }
     }
 }
 
 impl StoreCall {
-    // The number under which the call is known.
+    // The number under which the call is known: by a match, like a layer's.
     pub fn number(&self) -> u8
-        ensures { result ≡ store_number self.now }
+        ensures { result ≡ call_number self.now }
     {
         match self {
+            StoreCall::NoCall => 0,
             StoreCall::Create => 1,
-            StoreCall::Append(_) => 2,
-            StoreCall::Finish(_) => 3,
-            StoreCall::Read(_) => 4,
+            StoreCall::Append => 2,
+            StoreCall::Finish => 3,
+            StoreCall::Read => 4,
         }
     }
 }
 
 impl Fault {
-    // A call of the store failed.
-    pub fn of_store(partition: usize, call: StoreCall, cause: Cause) -> Fault
-        ensures { result ≡ store_fault partition call cause }
+    // A call of the store failed on that file.
+    pub fn of_store(partition: usize, call: StoreCall, file: u32, cause: Cause) -> Fault
+        ensures { result ≡ store_fault partition call file cause }
     {
         Fault {
-            layer: Layer::Store(call),
+            layer: Layer::Store,
             partition,
+            call,
+            file,
             cause: cause.number(),
         }
     }
 
-    // The number of the file on which the call was made: none for a feed and for create.
+    // The number of the file on which a call was made: none where no call failed, and for create.
     pub fn file(&self) -> Option<u32>
         ensures { result ≡ file_of self.now }
     {
-        match self.layer {
-            Layer::Feed | Layer::Store(StoreCall::Create) => None,
-            Layer::Store(
-                StoreCall::Append(file) | StoreCall::Finish(file) | StoreCall::Read(file),
-            ) => Some(file),
+        match (self.layer, self.call) {
+            (Layer::Feed, _) | (Layer::Store, StoreCall::NoCall | StoreCall::Create) => None,
+            (Layer::Store, StoreCall::Append | StoreCall::Finish | StoreCall::Read) => {
+                Some(self.file)
+            }
         }
     }
 
@@ -104,6 +102,8 @@ impl Fault {
         Fault {
             layer: Layer::Feed,
             partition,
+            call: StoreCall::NoCall,
+            file: 0,
             cause,
         }
     }
@@ -114,10 +114,11 @@ impl fmt::Display for StoreCall {
 
     fn fmt<W: fmt::Write>(&self, f: &mut fmt::Formatter<W>) -> fmt::Result {
         match self {
+            StoreCall::NoCall => write!(f, "no call"),
             StoreCall::Create => write!(f, "create"),
-            StoreCall::Append(file) => write!(f, "append to file {file}"),
-            StoreCall::Finish(file) => write!(f, "finish of file {file}"),
-            StoreCall::Read(file) => write!(f, "read of file {file}"),
+            StoreCall::Append => write!(f, "append"),
+            StoreCall::Finish => write!(f, "finish"),
+            StoreCall::Read => write!(f, "read"),
         }
     }
 }
@@ -128,7 +129,32 @@ impl fmt::Display for Layer {
     fn fmt<W: fmt::Write>(&self, f: &mut fmt::Formatter<W>) -> fmt::Result {
         match self {
             Layer::Feed => write!(f, "the feed"),
-            Layer::Store(call) => write!(f, "{call}"),
+            Layer::Store => write!(f, "the store"),
+        }
+    }
+}
+
+// What failed, as a fault's text begins: the layer where no call did, else the call, and the file on which it was made.
+#[derive(Clone, Copy)]
+struct Subject(Fault);
+
+impl fmt::Display for Subject {
+    ghost output = { λ subject. Some (subject_text subject.0) };
+
+    fn fmt<W: fmt::Write>(&self, f: &mut fmt::Formatter<W>) -> fmt::Result {
+        let Fault {
+            layer,
+            call,
+            file,
+            ..
+        } = self.0;
+        match (layer, call) {
+            (Layer::Feed, _) | (Layer::Store, StoreCall::NoCall) => write!(f, "{layer}"),
+            (Layer::Store, StoreCall::Create) => write!(f, "{call}"),
+            (Layer::Store, StoreCall::Append) => write!(f, "{call} to file {file}"),
+            (Layer::Store, StoreCall::Finish | StoreCall::Read) => {
+                write!(f, "{call} of file {file}")
+            }
         }
     }
 }
@@ -137,6 +163,6 @@ impl fmt::Display for Fault {
     ghost output = { λ fault. Some (fault_text fault) };
 
     fn fmt<W: fmt::Write>(&self, f: &mut fmt::Formatter<W>) -> fmt::Result {
-        write!(f, "{} fails, cause {}", self.layer, self.cause)
+        write!(f, "{} fails, cause {}", Subject(*self), self.cause)
     }
 }

@@ -153,7 +153,7 @@ pub enum PoolPoll<P> {
 fn create_in<S: Store>(store: &mut S, partition: usize) -> Result<u32, Fault>
     ensures { Creates partition (S.Store.files store.old) (S.Store.files store.new) result }
 {
-    store.create().map_err(|cause| Fault::of_store(partition, StoreCall::Create, cause))
+    store.create().map_err(|cause| Fault::of_store(partition, StoreCall::Create, 0, cause))
 }
 
 // Appends to a file of the store.
@@ -165,21 +165,21 @@ fn append_to<S: Store>(
 ) -> Result<(), Fault>
     ensures { Appends partition file words.now (S.Store.files store.old) (S.Store.files store.new) result }
 {
-    let call = StoreCall::Append(file);
+    let call = StoreCall::Append;
     store
         .append(file, words)
-        .map_err(|cause| Fault::of_store(partition, call, cause))
+        .map_err(|cause| Fault::of_store(partition, call, file, cause))
 }
 
 // Finishes a file of the store, and tells the fault if that fails.
 fn finish<S: Store>(store: &mut S, partition: usize, file: u32) -> Option<Fault>
     ensures { Finishes partition file (S.Store.files store.old) (S.Store.files store.new) result }
 {
-    let call = StoreCall::Finish(file);
+    let call = StoreCall::Finish;
     store
         .finish(file)
         .err()
-        .map(|cause| Fault::of_store(partition, call, cause))
+        .map(|cause| Fault::of_store(partition, call, file, cause))
 }
 
 // The file while it is written to: at the end it is open again, or left finished.
@@ -510,8 +510,7 @@ impl<P: Payload> SpillPool<P> {
             .store
             .read(file.number, index_of(file.read), &mut place)
         {
-            let call = StoreCall::Read(file.number);
-            let fault = Fault::of_store(self.setup.partition, call, cause);
+            let fault = Fault::of_store(self.setup.partition, StoreCall::Read, file.number, cause);
             return Ok(PoolPoll::Faulty(fault));
         }
         file.read += 1;

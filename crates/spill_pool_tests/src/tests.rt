@@ -247,21 +247,16 @@ fn pools_share_a_disk(rt: HostRuntime) -> Result<(), Fail> {
 #[test]
 fn faults(rt: HostRuntime) {
     let feed = Fault::of_feed(3, 255);
-    assert!(rt; feed.layer.number() == 1 && feed.layer.call_number() == 0);
+    assert!(rt; feed.layer.number() == 1 && feed.call.number() == 0 && feed.file == 0);
     assert!(rt; feed.file() == None && feed.partition == 3 && feed.cause == 255);
-    assert_eq!(rt;
-        Fault::of_store(0, StoreCall::Create, Cause::Device).file(),
-        None
-    );
-    assert_eq!(rt;
-        Fault::of_store(0, StoreCall::Read(7), Cause::Device).file(),
-        Some(7)
-    );
-    assert_eq!(rt; Layer::Store(StoreCall::Create).number(), 2);
-    assert_eq!(rt; Layer::Store(StoreCall::Finish(9)).call_number(), 3);
-    assert_eq!(rt; StoreCall::Create.number(), 1);
-    assert!(rt; StoreCall::Append(7).number() == 2 && StoreCall::Finish(7).number() == 3);
-    assert!(rt; StoreCall::Read(7).number() == 4 && runs_stand() == 0);
+    let create = Fault::of_store(0, StoreCall::Create, 7, Cause::Device);
+    let read = Fault::of_store(0, StoreCall::Read, 7, Cause::Device);
+    assert!(rt; create.file == 7 && create.file() == None && read.file() == Some(7));
+    let finish = Fault::of_store(0, StoreCall::Finish, 9, Cause::Device);
+    assert!(rt; finish.layer.number() == 2 && finish.call.number() == 3);
+    assert!(rt; Layer::Store.number() == 2 && StoreCall::Create.number() == 1);
+    assert!(rt; StoreCall::Append.number() == 2 && StoreCall::Finish.number() == 3);
+    assert!(rt; StoreCall::Read.number() == 4 && runs_stand() == 0);
 }
 
 // Does the fault print as that text?
@@ -274,15 +269,19 @@ fn reads_as(heap: Global, fault: Fault, text: &str) -> Result<bool, Fail> {
 #[test]
 fn words(rt: HostRuntime) -> Result<(), Fail> {
     let heap = rt.alloc();
-    let append = Fault::of_store(0, StoreCall::Append(3), Cause::NoSpace);
-    let finish = Fault::of_store(0, StoreCall::Finish(5), Cause::Device);
-    let create = Fault::of_store(0, StoreCall::Create, Cause::Device);
-    let read = Fault::of_store(0, StoreCall::Read(1), Cause::Misuse);
+    let append = Fault::of_store(0, StoreCall::Append, 3, Cause::NoSpace);
+    let finish = Fault::of_store(0, StoreCall::Finish, 5, Cause::Device);
+    let create = Fault::of_store(0, StoreCall::Create, 0, Cause::Device);
+    let read = Fault::of_store(0, StoreCall::Read, 1, Cause::Misuse);
+    let none = Fault::of_store(0, StoreCall::NoCall, 0, Cause::Device);
     assert!(rt; reads_as(heap, Fault::of_feed(3, 255), "the feed fails, cause 255")?);
     assert!(rt; reads_as(heap, create, "create fails, cause 3")?);
     assert!(rt; reads_as(heap, append, "append to file 3 fails, cause 1")?);
     assert!(rt; reads_as(heap, finish, "finish of file 5 fails, cause 3")?);
     assert!(rt; reads_as(heap, read, "read of file 1 fails, cause 2")?);
+    assert!(rt; reads_as(heap, none, "the store fails, cause 3")?);
+    let call = format!(in heap; "{}, {}", StoreCall::NoCall, StoreCall::Append)?;
+    assert_eq!(rt; call.as_str(), "no call, append");
     assert_eq!(rt; Push::from(Ok(None)), Push::Kept(None));
     let answers = format!(in heap;
         "{}; {}; {}; {}",
