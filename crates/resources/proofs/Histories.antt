@@ -1,13 +1,23 @@
 -- One call more in a history. Assumes nothing.
-use Rattle.std.proofs.Common.{◌≡◌, ℕ, ◌+◌, ◌<◌, true, false, cond, eqb, List, [], ◌∷◌, ◌++◌, length, get_or, take, set, Some, None, Option, Result, sym, refl, ap, ◌∙◌, subst, ⊎_elim, arith, length-take}
+use Rattle.std.proofs.Common.{◌≡◌, ℕ, ◌+◌, ◌-◌, ◌<◌, min, true, false, cond, eqb, List, [], ◌∷◌, ◌++◌, length, get_or, take, drop, set, Some, None, Option, Result, sym, refl, ap, ◌∙◌, subst, ⊎_elim, arith, length-append, length-drop, length-take}
 use Rattle.std.specs.List.{slice_get}
-use Rattle.std.proofs.lemmas.List.{take_more, take_more_set}
+use Rattle.std.specs.Option.{option_map}
+use Rattle.std.proofs.lemmas.List.{take_at, take_more, take_more_set, drop-drop, drop-set-lt}
 use Rattle.std.proofs.lemmas.Bool.{cases_eq, cond-true, cond-false, eq-eqb, ne_eqb}
 use Rattle.resources.specs.declared.runs.Call.{Call}
 use Rattle.resources.specs.declared.cause.Cause.{Cause}
 use Rattle.resources.specs.declared.runs.Answer.{Answer}
-use Rattle.resources.specs.Files.{File, Files, put, fresh, extended, shut, batch_at, Ask, Reply}
+use Rattle.resources.specs.Files.{File, Files, put, fresh, extended, shut, batch_at, laid, Ask, Reply}
 use Rattle.resources.specs.History.{Event, created, appended, shutdown, gave, removed, nothing, event, history, batches_of, held_by, appends, Faithful, Happens, Asked, Ran, more}
+
+-- what a read gave is what stands in the place
+pub read_words : (o : Option (List ℕ)) (l : ℕ) (p q : List ℕ) → option_map length o ≡ Some l → q ≡ laid o p → length p ≡ 64 → length q ≡ 64 → o ≡ Some (take (min l 64) q)
+read_words None l p q e f lp lq = absurd (let z : ◌≡◌ {A = ℕ} 0 1 = cc in omega arith)
+read_words (Some ws) l p q e f lp lq =
+    let el : length ws ≡ l = cc in
+    let lw : length ws + (64 - length ws) ≡ 64 = omega (arith, length-append ws (drop (length ws) p), length-drop (length ws) p, ap length f) in
+    let m : min l 64 ≡ length ws = omega arith in
+    sym (ap Some (ap (λ (k : ℕ). take k q) m ∙ ap (take (length ws)) f ∙ take_at ws (drop (length ws) p) (length ws) refl))
 
 pub history_more : (h : List Event) (cs : List Call) (rs : List (Result Answer Cause)) (c : Call) (r : Result Answer Cause) → length cs ≡ length rs → history h (cs ++ c ∷ []) (rs ++ r ∷ []) ≡ event c r ∷ history h cs rs
 history_more h [] [] c r e = refl
@@ -89,3 +99,7 @@ module _ {S : Type 0} (steps : S → Ask → Reply → S → Type 0) (s : S) whe
   ranging_more t u cs rs i d r lc lr g a =
       subst (λ (x : List Call). Ran steps s x (take (i + 1) (set rs i r)) u) (sym (take_more cs i d lc))
       (subst (λ (x : List (Result Answer Cause)). Ran steps s (take i cs ++ get_or cs i d ∷ []) x u) (sym (take_more_set rs i r lr)) (more g (get_or cs i d) r u a))
+
+-- the places behind the i answers stay
+pub rest_more : {X : Type 0} (old rs : List X) (i : ℕ) (r : X) → drop i rs ≡ drop i old → drop (i + 1) (set rs i r) ≡ drop (i + 1) old
+rest_more old rs i r e = drop-set-lt (i + 1) rs i r (omega arith) ∙ sym (drop-drop 1 i rs) ∙ ap (drop 1) e ∙ drop-drop 1 i old

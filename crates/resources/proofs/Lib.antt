@@ -1,1 +1,3 @@
+pub mod Tenancies
+pub mod Changes
 pub mod Histories

@@ -1,8 +1,8 @@
 -- What happened to a store, call by call, and what its reads gave. Assumes nothing.
-use Rattle.std.specs.Prelude.{◌≡◌, ℕ, if◌then◌else◌, List, [], ◌∷◌, ◌++◌, Some, None, Ok, Err, Option, Result, ◌==◌, ◌≢◌}
+use Rattle.std.specs.Prelude.{◌≡◌, ℕ, min, if◌then◌else◌, List, [], ◌∷◌, ◌++◌, take, Some, None, Ok, Err, Option, Result, ◌==◌, ◌≢◌}
 use Rattle.std.specs.List.{slice_get}
 use Rattle.resources.specs.declared.cause.Cause.{Cause}
-use Rattle.arrayvec.specs.ArrayVec.{array_vec_len}
+use Rattle.resources.specs.declared.runs.Batch.{Batch}
 use Rattle.resources.specs.declared.runs.Call.{Call}
 use Rattle.resources.specs.declared.runs.Call.TheVariants.{Create, Append, Finish, Read, Remove}
 use Rattle.resources.specs.declared.runs.Answer.{Answer}
@@ -18,12 +18,16 @@ pub data Event : Type 0 where
   removed : ℕ → Event
   nothing : Event
 
+-- the words of a batch
+abbrev pub words_of : Batch → List ℕ
+words_of b = take (min b.length 64) b.words
+
 -- what a call did, by its answer
 abbrev pub event : Call → Result Answer Cause → Event
 event Create (Ok (Number n)) = created n
-event (Append n ws) (Ok Done) = appended n ws.now
+event (Append n b) (Ok Done) = appended n (words_of b)
 event (Finish n) (Ok Done) = shutdown n
-event (Read n k) (Ok (Words b)) = gave n k b.items
+event (Read n k) (Ok (Words b)) = gave n k (words_of b)
 event (Remove n) r = removed n
 event c r = nothing
 
@@ -73,7 +77,7 @@ Happens fs nothing gs = gs ≡ fs
 -- what a call asks of the store
 abbrev pub ask_of : Call → Ask
 ask_of Create = create
-ask_of (Append n ws) = append n ws.now
+ask_of (Append n b) = append n (words_of b)
 ask_of (Finish n) = finish n
 ask_of (Read n k) = read n k
 ask_of (Remove n) = remove n
@@ -82,7 +86,7 @@ ask_of (Remove n) = remove n
 abbrev pub reply_of : Result Answer Cause → Reply
 reply_of (Ok (Number n)) = number n
 reply_of (Ok Done) = done
-reply_of (Ok (Words b)) = number (array_vec_len b)
+reply_of (Ok (Words b)) = number b.length
 reply_of (Err c) = failed c
 
 -- one call of a store, by what its calls do: it was asked this, it replied that

@@ -5,44 +5,51 @@ ghost use Rattle.resources.specs.History.{event, history, held_by, appends, Fait
 use crate::cause::Cause;
 use crate::payload::BATCH_WORDS;
 use crate::store::Store;
-use arrayvec::ArrayVec;
 
-// A call of a store; an append lends the words of its batch.
+// A batch: its words are the first `length` of `words`, 64 at most.
 #[derive(Clone, Copy, PartialEq, Eq, Debug)]
-pub enum Call<'a> {
+pub struct Batch {
+    pub words: [u64; 64],
+    pub length: usize,
+}
+
+// A call of a store.
+#[derive(Clone, Copy, PartialEq, Eq, Debug)]
+pub enum Call {
     Create,
-    Append(u32, &'a [u64]),
+    Append(u32, Batch),
     Finish(u32),
     Read(u32, u32),
     Remove(u32),
 }
 
 // What a call that the store did answers.
-#[derive(Clone, PartialEq, Eq, Debug, Drop)]
+#[derive(Clone, Copy, PartialEq, Eq, Debug)]
 pub enum Answer {
     // the number of a new file
     Number(u32),
     // of append, finish and remove
     Done,
     // what was read
-    Words(ArrayVec<u64, BATCH_WORDS>),
+    Words(Batch),
 }
 
 // Makes one call.
 pub fn perform<S: Store>(store: &mut S, call: Call) -> Result<Answer, Cause>
-    ensures happens { Happens (S.Store.files store.old) (event call.entry result) (S.Store.files store.new) }
-    ensures asked { Asked S.Store.steps store.old call.entry result store.new }
+    ensures happens { Happens (S.Store.files store.old) (event call result) (S.Store.files store.new) }
+    ensures asked { Asked S.Store.steps store.old call result store.new }
 {
     match call {
         Call::Create => Ok(Answer::Number(store.create()?)),
-        Call::Append(file, words) => store.append(file, words).map(|()| Answer::Done),
+        Call::Append(file, batch) => {
+            let n = batch.length.min(BATCH_WORDS);
+            store.append(file, &batch.words[..n]).map(|()| Answer::Done)
+        }
         Call::Finish(file) => store.finish(file).map(|()| Answer::Done),
         Call::Read(file, batch) => {
-            let mut place = [0; 64];
-            let length = store.read(file, batch, &mut place)?;
-            let mut words = ArrayVec::from(place);
-            words.truncate(length);
-            Ok(Answer::Words(words))
+            let mut words = [0; 64];
+            let length = store.read(file, batch, &mut words)?;
+            Ok(Answer::Words(Batch { words, length }))
         }
         Call::Remove(file) => {
             store.remove(file);

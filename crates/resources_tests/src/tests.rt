@@ -6,13 +6,12 @@ use resources::notice::Notice;
 use resources::payload::{Payload, round_trip};
 use resources::receipt::{Left, Receipt, Seen};
 use resources::reservation::{Change, LIMIT_MOST, Reservation, TenantChange, apply};
-use resources::runs::{Answer, Call, run};
+use resources::runs::{Answer, Batch, Call, run};
 use resources::store::Store;
 use resources::tenant::Tenant;
 use resources::tenants::Tenants;
 use resources::tripping::Tripping;
 use std::alloc::Global;
-use std::array;
 use std::test::Fail;
 use stores::block::BlockStore;
 use stores::log::LogStore;
@@ -422,20 +421,28 @@ fn runs(rt: HostRuntime) -> Result<(), Fail> {
     let mut store = log_store(rt.alloc(), 100)?;
     let calls = [
         Call::Create,
-        Call::Append(1, &[4; 64][..2]),
+        Call::Append(
+            1,
+            Batch {
+                words: [4; 64],
+                length: 2,
+            },
+        ),
         Call::Read(1, 0),
         Call::Finish(1),
         Call::Remove(1),
         Call::Read(1, 0),
     ];
-    let mut answers: [_; 6] = array::from_fn(|_| Ok(Answer::Done));
+    let mut answers = [Ok(Answer::Done); 6];
     run(&mut store, &calls, &mut answers);
     assert!(rt;
         matches!(answers[0], Ok(Answer::Number(1))) && matches!(answers[5], Err(Cause::Misuse))
     );
-    let Ok(Answer::Words(words)) = &answers[2] else {
+    let Ok(Answer::Words(batch)) = answers[2] else {
         return Err(Fail::new("a batch"));
     };
-    assert!(rt; words.len() == 2 && words[0] == 4 && words[1] == 4 && words.get(2).is_none());
+    assert!(rt;
+        batch.length == 2 && batch.words[0] == 4 && batch.words[1] == 4 && batch.words[2] == 0
+    );
     Ok(())
 }

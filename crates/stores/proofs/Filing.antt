@@ -1,5 +1,5 @@
 -- What the steps of a directory do to the files, whatever the nodes hold. Assumes nothing.
-use Rattle.std.proofs.Common.{◌≡◌, ℕ, ◌+◌, ◌-◌, ◌<◌, ◌≤◌, Bool, true, false, cond, eqb, List, [], ◌∷◌, ◌++◌, length, set, Some, None, Ok, Err, Option, sym, refl, ap, ◌∙◌, subst, ⊎_elim, arith}
+use Rattle.std.proofs.Common.{◌≡◌, ℕ, ◌+◌, ◌-◌, ◌<◌, ◌≤◌, Bool, true, false, eqb, List, [], ◌∷◌, ◌++◌, length, set, Some, None, Ok, Err, Option, sym, refl, ap, ◌∙◌, subst, ⊎_elim, arith}
 use mathlib.Core.Path.{fun_ext}
 use Rattle.std.proofs.lemmas.List.{length_push}
 use Rattle.std.proofs.lemmas.Option.{slice_get-get_or, slice_get_past}
@@ -13,11 +13,8 @@ use Rattle.stores.specs.Filed.{file_of, files_of, files_in, load_of, without}
 use Rattle.stores.proofs.Chaining.{length-walk, walk_at}
 use Rattle.stores.proofs.Shifting.{Moves, moves_of, shift_order, node_here, node_other, number_same, live_same, walk_other, walk_to}
 use Rattle.stores.proofs.Entries.{entry_closed, entry_kept, kept_of, finish_order}
+use Rattle.stores.proofs.Lookups.{put_twice}
 use Rattle.stores.proofs.Tables.{present, file_at, find_none, files_put, load_files, load_batches, files_drop, load_drop}
-
--- what is put twice is what was put last
-put_twice : (n m : ℕ) (a b s : Option File) → cond (eqb m n) a (cond (eqb m n) b s) ≡ cond (eqb m n) a s
-put_twice n m a b s = elim (eqb m n) as (λ t. cond t a (cond t b s) ≡ cond t a s) [ true ↦ refl | false ↦ refl ]
 
 module _ {ns : List Node} {es : List Entry} {count next : ℕ} (o : Order ns es count next) (v : ℕ → Node → List ℕ) where
   -- a file that is open

@@ -3,6 +3,7 @@ pub mod Shifting
 pub mod Entries
 pub mod Openings
 pub mod Layings
+pub mod Lookups
 pub mod Tables
 pub mod Filing
 pub mod Fars

@@ -321,7 +321,7 @@ module _ {ns : List Node} {es : List Entry} {f t j : ℕ} (mv : Moves ns es f t 
     }
 
 -- the jump that the code computes is lawful
-jump_ok : {ns : List Node} {es : List Entry} → Sound ns es → (f t : ℕ) → t < length es → JumpOk ns es t (entry es f).last (jump_of ns es f t)
+pub jump_ok : {ns : List Node} {es : List Entry} → Sound ns es → (f t : ℕ) → t < length es → JumpOk ns es t (entry es f).last (jump_of ns es f t)
 jump_ok {ns = ns} {es} s f t lt = (
   (λ z. cond-true _ _ _ (eq-eqb _ _ z)),
   (λ h.

@@ -1,21 +1,29 @@
 -- Files by number, from the entries in use. Assumes nothing.
 use Rattle.std.proofs.Common.{◌≡◌, ℕ, zero, suc, ◌+◌, ◌-◌, ◌^◌, ◌<◌, ◌≤◌, Bool, true, List, [], ◌∷◌, ◌++◌, map, length, get_or, take, drop, set, Some, None, Option, ◌==◌, eqb, ◌⊎◌, inl, inr, ltb, sum_by, sym, refl, ap, ◌∙◌, subst, ⊎_elim, add-one, arith, length-drop, length-set, length-take}
 use mathlib.Core.Path.{fun_ext}
-use Rattle.std.specs.List.{remove, find, position, position_or_len, slice_get, slice_range}
+use Rattle.std.specs.List.{remove, position, position_or_len, slice_range}
 use Rattle.std.specs.Option.{option_map}
 use Rattle.std.proofs.lemmas.List.{get_or-take, get_or-drop, get_or-map, length-map, ext_get_or, get_or-set_same, get_or-set_other, length_push, take_more, drop_more, map_push}
 use Rattle.std.proofs.lemmas.List.Edits.{get_or-remove_below, get_or-remove_above, length-remove}
-use Rattle.std.proofs.lemmas.List.Sums.{sum_by-set, sum_by_push, sum_by-append, sum_by-take-drop, sum_by-cons, sum_by_more, passes_at_first, fails_before_first, position_or_len_is}
-use Rattle.std.proofs.lemmas.List.Folds.{find_at as find_is}
-use Rattle.std.proofs.lemmas.Option.{slice_get-get_or, slice_get_past}
+use Rattle.std.proofs.lemmas.List.Sums.{sum_by-set, sum_by_push, sum_by-append, sum_by-take-drop, sum_by-cons, sum_by_more, passes_at_first, fails_before_first}
 use Rattle.std.proofs.lemmas.Bool.{cases_eq, cases_lt, eq-eqb, ne_eqb, eqb-true, cond-true, cond-false, lt-ltb, le-ltb, true≢false}
 use Rattle.stores.specs.declared.node.Node.{Node}
 use Rattle.stores.specs.declared.node.Entry.{Entry}
 use Rattle.resources.specs.Files.{File, Files, put, fresh}
 use Rattle.stores.specs.Chains.{node, entry, blank_entry, held, walk, closed_up, Sought, Order}
-use Rattle.stores.specs.Filed.{in_use, file_of, files_of, files_in, load_of}
+use Rattle.stores.specs.Filed.{in_use, numbers_of, file_of, files_of, files_in, load_of}
 use Rattle.stores.proofs.Chaining.{length-walk}
 use Rattle.stores.proofs.Entries.{closed_below, closed_above}
+use Rattle.stores.proofs.Lookups.{Hit, Missing, lookup_hit, lookup_missing, files_in_is}
+
+hit_from : (ks : List ℕ) (j n : ℕ) → j < length ks → get_or ks j 0 ≡ n → ((i : ℕ) → i < j → get_or ks i 0 ≡ n → ⊥) → Hit n ks j
+hit_from [] j n l e h = absurd (omega arith)
+hit_from (k ∷ ks) zero n l e h = eq-eqb n k (sym e)
+hit_from (k ∷ ks) (suc j) n l e h = (ne_eqb n k (λ u. h 0 (omega arith) (sym u)), hit_from ks j n (omega arith) e (λ i li. h (suc i) (omega arith)))
+
+missing_from : (ks : List ℕ) (n : ℕ) → ((i : ℕ) → i < length ks → get_or ks i 0 ≡ n → ⊥) → Missing n ks
+missing_from [] n h = tt
+missing_from (k ∷ ks) n h = (ne_eqb n k (λ u. h 0 (omega arith) (sym u)), missing_from ks n (λ i l. h (suc i) (omega arith)))
 
 -- files that differ at one number alone
 put_ext : (fs gs : Files) (n : ℕ) (f : Option File) → gs n ≡ f → ((m : ℕ) → (m ≡ n → ⊥) → gs m ≡ fs m) → gs ≡ put fs n f
@@ -46,29 +54,23 @@ module _ {ns : List Node} {es : List Entry} {count next : ℕ} (o : Order ns es 
   pub in_use_at : (j : ℕ) → j < count → get_or (in_use es count) j blank_entry ≡ entry es (j + 1)
   in_use_at j l = get_or-take count (drop 1 es) j blank_entry l ∙ get_or-drop 1 es j blank_entry ∙ ap (entry es) (omega arith)
 
-  -- the entry in use with the number n is the one that is found
-  found : (i n : ℕ) → 0 < i → i ≤ count → (entry es i).number ≡ n → find (λ e. e.number == n) (in_use es count) ≡ Some (entry es i)
-  found i n lo le g =
-      let p : Entry → Bool = λ e. e.number == n in
-      let xs = in_use es count in
-      let u : i - 1 + 1 ≡ i = omega arith in
-      let long = in_use_long in
-      let k : position_or_len p xs ≡ i - 1 =
-      position_or_len_is p xs (i - 1) blank_entry (omega arith)
-      (λ j l. ap p (in_use_at j (omega arith)) ∙ ne_eqb _ _ (λ w. let same : j + 1 ≡ i = o.sound.apart (j + 1) i (omega (arith, o.table, o.few), omega (arith, o.table, o.few), w ∙ sym g) in omega arith))
-      (λ l. ap p (in_use_at (i - 1) (omega arith)) ∙ eq-eqb _ _ (ap (λ (x : ℕ). (entry es x).number) u ∙ g)) in
-      find_is p xs ∙ ap (slice_get xs) k ∙ slice_get-get_or xs (i - 1) blank_entry (omega arith) ∙ ap Some (in_use_at (i - 1) (omega arith) ∙ ap (entry es) u)
+  pub numbers_long : length (numbers_of es count) ≡ count
+  numbers_long = length-map (in_use es count) (λ e. e.number) ∙ in_use_long
 
-  missing : (n : ℕ) → ((j : ℕ) → 0 < j → j ≤ count → (entry es j).number ≡ n → ⊥) → find (λ e. e.number == n) (in_use es count) ≡ None
-  missing n h =
-      let p : Entry → Bool = λ e. e.number == n in
-      let xs = in_use es count in
-      let long = in_use_long in
-      let k : position_or_len p xs ≡ count =
-      position_or_len_is p xs count blank_entry (omega arith)
-      (λ j l. ap p (in_use_at j l) ∙ ne_eqb _ _ (h (j + 1) (omega arith) (omega arith)))
-      (λ l. absurd (omega arith)) in
-      find_is p xs ∙ ap (slice_get xs) k ∙ slice_get_past xs count (omega arith)
+  pub numbers_at : (j : ℕ) → j < count → get_or (numbers_of es count) j 0 ≡ (entry es (j + 1)).number
+  numbers_at j l = get_or-map (λ e. e.number) (in_use es count) j blank_entry 0 (omega (arith, in_use_long)) ∙ ap (λ (e : Entry). e.number) (in_use_at j l)
+
+  -- the number of the entry i comes first at i - 1
+  pub hit : (i : ℕ) → 0 < i → i ≤ count → Hit (entry es i).number (numbers_of es count) (i - 1)
+  hit i lo le =
+      let e : i - 1 + 1 ≡ i = omega arith in
+      hit_from (numbers_of es count) (i - 1) (entry es i).number (omega (arith, numbers_long)) (numbers_at (i - 1) (omega arith) ∙ ap (λ (k : ℕ). (entry es k).number) e)
+      (λ j lj h.
+      let u : j + 1 ≡ i = o.sound.apart (j + 1) i (omega (arith, o.table, o.few), omega (arith, o.table, o.few), sym (numbers_at j (omega arith)) ∙ h) in
+      omega arith)
+
+  pub missing : (n : ℕ) → ((j : ℕ) → 0 < j → j ≤ count → (entry es j).number ≡ n → ⊥) → Missing n (numbers_of es count)
+  missing n h = missing_from (numbers_of es count) n (λ j l e. let lj : j < count = omega (arith, numbers_long) in h (j + 1) (omega arith) (omega arith) (sym (numbers_at j lj) ∙ e))
 
   module _ (v : ℕ → Node → List ℕ) where
     pub files_long : length (files_of ns v es count) ≡ count
@@ -77,11 +79,18 @@ module _ {ns : List Node} {es : List Entry} {count next : ℕ} (o : Order ns es 
     pub files_at : (j : ℕ) (d : File) → j < count → get_or (files_of ns v es count) j d ≡ file_of ns v (entry es (j + 1))
     files_at j d l = get_or-map (file_of ns v) (in_use es count) j blank_entry d (omega (arith, in_use_long)) ∙ ap (file_of ns v) (in_use_at j l)
 
+    pub find_at : (i : ℕ) → 0 < i → i ≤ count → files_in ns v es count (entry es i).number ≡ Some (file_of ns v (entry es i))
+    find_at i lo le =
+        let e : i - 1 + 1 ≡ i = omega arith in
+        files_in_is ns v es count (entry es i).number
+        ∙ lookup_hit (entry es i).number fresh (numbers_of es count) (files_of ns v es count) (i - 1) (hit i lo le) (files_long ∙ sym numbers_long)
+        ∙ ap Some (files_at (i - 1) fresh (omega arith) ∙ ap (λ (k : ℕ). file_of ns v (entry es k)) e)
+
     pub file_at : (i n : ℕ) → 0 < i → i ≤ count → (entry es i).number ≡ n → files_in ns v es count n ≡ Some (file_of ns v (entry es i))
-    file_at i n lo le e = ap (option_map (file_of ns v)) (found i n lo le e)
+    file_at i n lo le e = ap (files_in ns v es count) (sym e) ∙ find_at i lo le
 
     pub find_none : (n : ℕ) → ((j : ℕ) → 0 < j → j ≤ count → (entry es j).number ≡ n → ⊥) → files_in ns v es count n ≡ None
-    find_none n h = ap (option_map (file_of ns v)) (missing n h)
+    find_none n h = files_in_is ns v es count n ∙ lookup_missing n (numbers_of es count) (files_of ns v es count) (missing n h)
 
 -- one file changes
 module _ {ns : List Node} {es : List Entry} {count next : ℕ} (o : Order ns es count next) (v : ℕ → Node → List ℕ)

@@ -1,5 +1,5 @@
 -- The files of a directory, and what exactly its calls answer, whatever its nodes hold. Assumes nothing.
-use Rattle.std.specs.Prelude.{◌≡◌, ℕ, ◌+◌, ◌-◌, ◌/◌, ◌<◌, ◌≤◌, Bool, true, false, cond, ◌&&◌, List, map, length, drop, take, Some, None, Ok, Err, vec_items, sum_by, Option, Result, ◌==◌, ◌≢◌, nat_eq, nat_lt, ◌⊎◌, slice_set}
+use Rattle.std.specs.Prelude.{◌≡◌, ℕ, ◌+◌, ◌-◌, ◌/◌, ◌<◌, ◌≤◌, Bool, true, false, cond, ◌&&◌, List, [], ◌∷◌, map, length, drop, take, Some, None, Ok, Err, vec_items, sum_by, Option, Result, ◌==◌, ◌≢◌, nat_eq, nat_lt, ◌⊎◌, slice_set}
 use Rattle.std.specs.List.{find}
 use Rattle.std.specs.Option.{option_map}
 use Rattle.resources.specs.declared.cause.Cause.{Cause}
@@ -14,12 +14,22 @@ use Rattle.stores.specs.Chains.{node, entry, held, closed, free_node, Blank}
 abbrev pub in_use : List Entry → ℕ → List Entry
 in_use es count = take count (drop 1 es)
 
+-- their numbers
+abbrev pub numbers_of : List Entry → ℕ → List ℕ
+numbers_of es count = map (λ e. e.number) (in_use es count)
+
 -- the file of an entry, where v says what a node holds
 abbrev pub file_of : List Node → (ℕ → Node → List ℕ) → Entry → File
 file_of ns v e = record { live = e.live; batches = held ns v e }
 
 abbrev pub files_of : List Node → (ℕ → Node → List ℕ) → List Entry → ℕ → List File
 files_of ns v es count = map (file_of ns v) (in_use es count)
+
+-- the value beside the first key that is n
+abbrev pub lookup : {X : Type 0} → List ℕ → List X → ℕ → Option X
+lookup [] vs n = None
+lookup (k ∷ ks) [] n = None
+lookup (k ∷ ks) (v ∷ vs) n = cond (nat_eq n k) (Some v) (lookup ks vs n)
 
 -- the file of each number: that of the first entry in use that has it
 abbrev pub files_in : List Node → (ℕ → Node → List ℕ) → List Entry → ℕ → Files

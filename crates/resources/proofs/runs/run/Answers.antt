@@ -1,9 +1,8 @@
 -- No call yet, and one call more.
 use Rattle.std.proofs.Common.{◌<◌, length, refl, arith, length-take}
-use Rattle.std.proofs.lemmas.Grind.{common_steps}
 use Rattle.std.proofs.lemmas.List.{get_or-take}
 use Rattle.resources.specs.History.{none}
-use Rattle.resources.proofs.Histories.{running_more, ranging_more}
+use Rattle.resources.proofs.Histories.{running_more, ranging_more, rest_more}
 use Rattle.resources.proofs.runs.run.Goals as goal
 
 pub loop-i-init : goal.loop-i-init
@@ -21,5 +20,5 @@ loop-i-preserved g c =
     let made = rw (get_or-take c.min-n.result cs i _ li) at c.perform.ensures in (
       ranging_more g.S.Store.steps c.args.store.now c.loop-i.store c.perform.new.store cs c.loop-i.answers i _ c.perform.result lc lr c.loop-i.invariant.0 made.asked,
       running_more (files c.args.store.now) (files c.loop-i.store) (files c.perform.new.store) cs c.loop-i.answers i _ c.perform.result lc lr c.loop-i.invariant.1 made.happens,
-      grind (arith, common_steps),
+      rest_more c.args.answers.now c.loop-i.answers i c.perform.result c.loop-i.invariant.2,
     )
