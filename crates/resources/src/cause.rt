@@ -5,14 +5,15 @@ ghost use Rattle.resources.specs.Texts.{cause_text};
 
 use std::fmt;
 
+// In the order of their numbers, which are from 1 on; `as u8` counts from 0.
 #[derive(Clone, Copy, PartialEq, Eq, Debug)]
 pub enum Cause {
     // create or append found no space
-    NoSpace = 1,
+    NoSpace,
     // the call asks what the files do not allow
-    Misuse = 2,
+    Misuse,
     // the device failed
-    Device = 3,
+    Device,
 }
 
 impl Cause {
@@ -20,7 +21,7 @@ impl Cause {
     pub fn number(&self) -> u8
         ensures { result ≡ cause_number self.now }
     {
-        *self as u8
+        *self as u8 + 1
     }
 }
 
