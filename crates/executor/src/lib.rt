@@ -97,12 +97,14 @@ impl fmt::Display for Sending {
 fn next_of(notices: &[Notice], feed: usize, from: usize) -> Option<(usize, Notice)>
     ensures { result ≡ find (λ x. x.1.feed == feed) (drop from (enumerate_from 0 notices.now)) }
 {
-    notices
+    // a slice that begins there: `skip` would walk over all that stands before, at each call
+    let ahead = notices.get(from..)?;
+    let (passed, notice) = ahead
         .iter()
         .copied()
         .enumerate()
-        .skip(from)
-        .find(|(_, notice)| notice.feed == feed)
+        .find(|(_, notice)| notice.feed == feed)?;
+    Some((from + passed, notice))
 }
 
 // The channels with their memories, the book of what was delivered, and how far each feed has come in the list of notices.
