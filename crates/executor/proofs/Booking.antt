@@ -22,6 +22,8 @@ use Rattle.executor.specs.declared.Notice.{Notice}
 use Rattle.executor.specs.declared.Delivery.{Delivery}
 use Rattle.executor.specs.declared.Sending.{Sending}
 use Rattle.executor.specs.declared.Sending.TheVariants as ours
+use Rattle.executor.specs.declared.run.Halt.{Halt}
+use Rattle.executor.specs.declared.run.Halt.TheVariants.{Memory}
 use Rattle.executor.specs.declared.run.Run.{Run as Going}
 use Rattle.executor.specs.Books.{of_feed, to_room, booked, Sound, refused_as, outcome_of, advance, sent_by, Drained, Emptied, Settles, Onward, Goes}
 
@@ -89,6 +91,10 @@ pushed p h xs x = rw (filter-append p xs (x ∷ []), map-append h (filter p xs) 
 cond_nil : {A : Type 0} (b : Bool) → ◌≡◌ {A = List A} (cond b [] []) []
 cond_nil true = refl
 cond_nil false = refl
+
+-- an answer is no want of memory
+pub answered : {A : Type 0} (x : A) → ◌≡◌ {A = Result A Halt} (Ok x) (Err Memory) → ⊥
+answered x e = absurd cc
 
 -- what the book gains by a poll of the room k
 abbrev pub delivers : ℕ → ReceiveAnswer ℕ → List Delivery

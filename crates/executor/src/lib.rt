@@ -9,8 +9,9 @@
 // the gate or the memory stops them.
 #![tactic(auto)]
 
-ghost use Rattle.std.specs.Prelude.{◌≡◌, ◌==◌, ◌≤◌, ◌↔◌, ℕ, true, List, [], Ok, IfOk, IsTrue, EachIndex, drop, find, slice_index};
+ghost use Rattle.std.specs.Prelude.{◌≡◌, ◌≢◌, ◌==◌, ◌≤◌, ◌↔◌, ℕ, true, List, [], Ok, Err, IfOk, IsTrue, EachIndex, drop, find, slice_index};
 ghost use Rattle.std.specs.List.{enumerate_from};
+ghost use Rattle.executor.specs.declared.run.Halt.TheVariants.{Memory};
 ghost use Rattle.executor.specs.Books.{Stands, Keeps, Sends, Drained, Settles, outcome_of, advance, told_end};
 
 pub mod run;
@@ -163,16 +164,15 @@ impl<'a> Floor<'a> {
     }
 
     // Polls a room, and books what it is given. If that was the end, everything accepted there is in the book.
+    // Where no memory is left for the book, it lacks what was given.
     fn receive_next(&mut self, room: usize) -> Result<ReceivePoll<u64>, Halt>
-        ensures law { Drained (told_end result) room self.old self.new }
+        ensures law { result ≢ Err Memory → Drained (told_end result) room self.old self.new }
         ensures places { self.new.cursors.items ≡ self.old.cursors.items }
     {
-        // first of all, so that nothing is taken out that can't be booked
-        self.book.reserve(1)?;
         let waker = Task::Room(room).waker();
         let polled = self.channels.receive_poll(&mut self.memories, room, waker)?;
         if let ReceivePoll::Element(id, _) = polled {
-            self.book.push(Delivery { room, id }).unwrap();
+            self.book.push(Delivery { room, id })?;
         }
         Ok(polled)
     }

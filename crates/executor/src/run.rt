@@ -115,11 +115,11 @@ impl Run<'_, '_> {
         println!(rt; "{task} {sending}")?;
         match sending {
             Sending::Sent(_, named) => {
-                self.ready.add(task)?;
+                self.ready.add(task);
                 self.ready.wake(self.floor.woken(named), rt)?;
             }
             Sending::Waits(_) => {}
-            Sending::Full(_) => self.ready.hold(task)?,
+            Sending::Full(_) => self.ready.hold(task),
             Sending::Done => self.close_all(rt)?,
         }
         Ok(())
@@ -144,8 +144,8 @@ impl Run<'_, '_> {
         match self.floor.receive_next(room)? {
             ReceivePoll::Element(id, named) => {
                 println!(rt; "{task} is given {id}")?;
-                self.ready.add(task)?;
-                self.ready.relieve()?;
+                self.ready.add(task);
+                self.ready.relieve();
                 self.ready.wake(self.floor.woken(named), rt)?;
             }
             ReceivePoll::Wait => println!(rt; "{task} waits")?,
@@ -178,7 +178,7 @@ pub fn deliver<'a, R: Print>(
     ensures { IfOk result (λ o. o.all ≡ true → Delivered rooms feeds notices.now o.floor.book.items) }
 {
     let floor = Floor::open(heap, elements, entries, woken, rooms, feeds)?;
-    let ready = Ready::new(heap, feeds as usize, rooms)?;
+    let ready = Ready::new(feeds as usize, rooms);
     let mut run = Run {
         floor,
         notices,
