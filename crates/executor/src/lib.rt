@@ -9,7 +9,7 @@
 // the gate or the memory stops them.
 #![tactic(auto)]
 
-ghost use Rattle.std.specs.Prelude.{◌≡◌, ◌≢◌, ◌==◌, ◌≤◌, ◌↔◌, ℕ, true, List, [], Ok, Err, IfOk, IsTrue, EachIndex, drop, find, slice_index};
+ghost use Rattle.std.specs.Prelude.{◌≡◌, ◌≢◌, ◌==◌, ◌<◌, ◌≤◌, ◌↔◌, ℕ, true, List, [], length, Ok, Err, IfOk, IsTrue, drop, find, slice_index};
 ghost use Rattle.std.specs.List.{enumerate_from};
 ghost use Rattle.executor.specs.declared.run.Halt.TheVariants.{Memory};
 ghost use Rattle.executor.specs.Books.{Stands, Keeps, Sends, Drained, Settles, outcome_of, advance, told_end};
@@ -114,7 +114,7 @@ pub struct Floor<'a> {
     channels: Channels,
     memories: Memories<'a, u64>,
     book: Vec<Delivery>,
-    cursors: Vec<usize>,
+    cursors: [usize; 32],
 }
 
 impl<'a> Floor<'a> {
@@ -126,7 +126,7 @@ impl<'a> Floor<'a> {
         woken: &'a mut [u32],
         rooms: usize,
         feeds: u32,
-    ) -> Result<Floor<'a>, Halt>
+    ) -> Result<Floor<'a>, Refusal>
         ensures { IfOk result (λ f. (notices : List Notice) → Stands rooms feeds notices [] f) }
     {
         let memories = Memories {
@@ -139,7 +139,7 @@ impl<'a> Floor<'a> {
             channels,
             memories,
             book: Vec::new(heap),
-            cursors: vec![in heap; 0; feeds as usize]?,
+            cursors: [0; 32],
         })
     }
 
@@ -167,7 +167,7 @@ impl<'a> Floor<'a> {
     // Where no memory is left for the book, it lacks what was given.
     fn receive_next(&mut self, room: usize) -> Result<ReceivePoll<u64>, Halt>
         ensures law { result ≢ Err Memory → Drained (told_end result) room self.old self.new }
-        ensures places { self.new.cursors.items ≡ self.old.cursors.items }
+        ensures places { self.new.cursors ≡ self.old.cursors }
     {
         let waker = Task::Room(room).waker();
         let polled = self.channels.receive_poll(&mut self.memories, room, waker)?;
@@ -180,7 +180,7 @@ impl<'a> Floor<'a> {
     // Polls a room, and tells whether that was the end.
     fn drained(&mut self, room: usize) -> Result<bool, Halt>
         ensures law { IfOk result (λ b. Drained b room self.old self.new) }
-        ensures places { self.new.cursors.items ≡ self.old.cursors.items }
+        ensures places { self.new.cursors ≡ self.old.cursors }
     {
         match self.receive_next(room) {
             Ok(polled) => Ok(matches!(polled, ReceivePoll::End)),
@@ -190,18 +190,21 @@ impl<'a> Floor<'a> {
         }
     }
 
-    // Have all feeds come to the end of the notices?
-    fn all_at_end(&self, end: usize) -> bool
-        ensures { IsTrue result ↔ EachIndex self.now.cursors.items (λ feed. end ≤ slice_index self.now.cursors.items feed) }
+    // Have all of these feeds come to the end of the notices?
+    fn all_at_end(&self, feeds: usize, end: usize) -> bool
+        ensures { IsTrue result ↔ ((feeds ≤ length self.now.cursors) × ((feed : ℕ) → feed < feeds → end ≤ slice_index self.now.cursors feed)) }
     {
-        self.cursors.iter().all(|cursor| *cursor >= end)
+        match self.cursors.get(..feeds) {
+            Some(cursors) => cursors.iter().all(|cursor| *cursor >= end),
+            None => false,
+        }
     }
 
     // Was everything delivered: has each feed come to its end, and is each room told the end?
-    fn settle(&mut self, notices: &[Notice], rooms: usize) -> Result<bool, Halt>
-        ensures { IfOk result (λ b. b ≡ true → Settles rooms notices.now self.old self.new) }
+    fn settle(&mut self, notices: &[Notice], rooms: usize, feeds: usize) -> Result<bool, Halt>
+        ensures { IfOk result (λ b. b ≡ true → Settles rooms feeds notices.now self.old self.new) }
     {
-        if !self.all_at_end(notices.len()) {
+        if !self.all_at_end(feeds, notices.len()) {
             return Ok(false);
         }
         for room in 0..rooms {

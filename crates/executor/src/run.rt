@@ -187,6 +187,6 @@ pub fn deliver<'a, R: Print>(
     };
     run.go(rt)?;
     let mut floor = run.floor;
-    let all = floor.settle(notices, rooms)?;
+    let all = floor.settle(notices, rooms, feeds as usize)?;
     Ok(Outcome { floor, all })
 }
