@@ -9,10 +9,11 @@
 // the gate or the memory stops them.
 #![tactic(auto)]
 
-ghost use Rattle.std.specs.Prelude.{◌≡◌, ◌≢◌, ◌==◌, ◌<◌, ◌≤◌, ◌↔◌, ℕ, true, List, [], length, Ok, Err, IfOk, IsTrue, drop, find, slice_index};
+ghost use Rattle.std.specs.Prelude.{◌≡◌, ◌≢◌, ◌==◌, ◌<◌, ◌≤◌, ◌↔◌, ℕ, true, List, [], length, Some, Ok, Err, IfOk, IsTrue, drop, find, slice_index};
 ghost use Rattle.std.specs.List.{enumerate_from};
 ghost use Rattle.executor.specs.declared.run.Halt.TheVariants.{Memory};
 ghost use Rattle.executor.specs.Books.{Stands, Keeps, Sends, Drained, Settles, outcome_of, advance, told_end};
+ghost use Rattle.executor.specs.Texts.{sending_text};
 
 pub mod run;
 mod tasks;
@@ -80,6 +81,8 @@ impl Sending {
 
 // What is said of the feed.
 impl fmt::Display for Sending {
+    ghost output = { λ sending. Some (sending_text sending) };
+
     fn fmt<W: fmt::Write>(&self, f: &mut fmt::Formatter<W>) -> fmt::Result {
         match self {
             Sending::Sent(Notice { room, id, .. }, _) => write!(f, "sends {id} to room {room}"),

@@ -1,6 +1,7 @@
 // The loop: whose turn it is, what a turn does, and what is said about it.
 ghost use Rattle.std.specs.Prelude.{◌≡◌, true, IfOk, OnOk};
 ghost use Rattle.executor.specs.Books.{Goes, Delivered};
+ghost use Rattle.executor.specs.Texts.{halt_text};
 ghost use Rattle.executor.specs.declared.run.Halt.TheVariants.{Refused, Memory, Output};
 
 use crate::tasks::{Ready, Task};
@@ -26,11 +27,13 @@ pub enum Halt {
 }
 
 impl fmt::Display for Halt {
+    ghost output = { halt_text };
+
     fn fmt<W: fmt::Write>(&self, f: &mut fmt::Formatter<W>) -> fmt::Result {
         match self {
             Halt::Refused(_) => write!(f, "a call was refused"),
             Halt::Memory => write!(f, "no memory is left"),
-            Halt::Output(e) => write!(f, "{e}"),
+            Halt::Output(error) => write!(f, "{error}"),
         }
     }
 }
