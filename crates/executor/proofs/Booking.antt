@@ -1,9 +1,9 @@
 -- What calls on the channels do to the book, the notices accepted and the feeds' places. Assumes nothing.
-use Rattle.std.proofs.Common.{◌≡◌, ℕ, zero, suc, ◌+◌, ◌<◌, ◌≤◌, ◌⊎◌, Bool, true, false, cond, not, eqb, ltb, List, [], ◌∷◌, ◌++◌, length, get_or, take, drop, set, replicate, Option, Some, None, Ok, Err, vec_items, Result, sym, refl, ap, ◌∙◌, inl, inr, ⊎_elim, append-nil, add-zero, arith, length-append, length-set, EachIndex, IsErr, slice_get, map, filter, rules}
+use Rattle.std.proofs.Common.{◌≡◌, ℕ, zero, suc, ◌+◌, ◌<◌, ◌≤◌, ◌⊎◌, Bool, true, false, cond, not, eqb, ltb, List, [], ◌∷◌, ◌++◌, length, get_or, take, drop, set, replicate, Option, Some, None, Ok, Err, Result, sym, refl, ap, ◌∙◌, inl, inr, ⊎_elim, append-nil, add-zero, arith, length-append, IsErr, slice_get, map, filter, rules}
 use Rattle.std.specs.List.{find, enumerate_from}
 use Rattle.std.proofs.lemmas.List.Elements.{filter_more, filter-append}
 use Rattle.std.proofs.Math.Bool.{and-true, and-false}
-use Rattle.std.proofs.lemmas.List.{get_or-set_same, get_or-set_other, take_all, length-replicate, map-append}
+use Rattle.std.proofs.lemmas.List.{get_or-set_same, get_or-set_other, take_all, map-append}
 use Rattle.std.proofs.lemmas.Option.{slice_get_within, get_or_from_slice_get}
 use Rattle.std.proofs.lemmas.Bool.{cases_eq, eq-eqb, ne_eqb, eqb-true, ltb-true, and_parts, both_ways}
 use Rattle.refusal.specs.declared.Refusal.{Refusal}
@@ -22,6 +22,8 @@ use Rattle.executor.specs.declared.Notice.{Notice}
 use Rattle.executor.specs.declared.Delivery.{Delivery}
 use Rattle.executor.specs.declared.Sending.{Sending}
 use Rattle.executor.specs.declared.Sending.TheVariants as ours
+use Rattle.executor.specs.declared.run.Halt.{Halt}
+use Rattle.executor.specs.declared.run.Halt.TheVariants.{Memory}
 use Rattle.executor.specs.declared.run.Run.{Run as Going}
 use Rattle.executor.specs.Books.{of_feed, to_room, booked, Sound, refused_as, outcome_of, advance, sent_by, Drained, Emptied, Settles, Onward, Goes}
 
@@ -44,10 +46,10 @@ module _ (f : ℕ) where
   NextFrom k xs i (Some x) = (p : ℕ) × (x.0 ≡ k + p) × Found xs f i p x.1
 
   -- a notice of another feed is passed over
-  passed : (k : ℕ) (x : Notice) (xs : List Notice) → eqb x.feed f ≡ false → (r : Option (ℕ × Notice)) → NextFrom (k + 1) xs 0 r → NextFrom k (x ∷ xs) 0 r
+  missed : (k : ℕ) (x : Notice) (xs : List Notice) → eqb x.feed f ≡ false → (r : Option (ℕ × Notice)) → NextFrom (k + 1) xs 0 r → NextFrom k (x ∷ xs) 0 r
   unfolding NextFrom
-  passed k x xs t None e = rw t e
-  passed k x xs t (Some y) e = (suc e.0, omega (arith, e.1), record { within = let h = e.2.within in omega arith; here = e.2.here; own = e.2.own; none = rw t e.2.none })
+  missed k x xs t None e = rw t e
+  missed k x xs t (Some y) e = (suc e.0, omega (arith, e.1), record { within = let h = e.2.within in omega arith; here = e.2.here; own = e.2.own; none = rw t e.2.none })
 
   -- so is what stands before the place
   skipped : (k i : ℕ) (x : Notice) (xs : List Notice) (r : Option (ℕ × Notice)) → NextFrom (k + 1) xs i r → NextFrom k (x ∷ xs) (suc i) r
@@ -63,7 +65,7 @@ module _ (f : ℕ) where
     where
       by : (b : Bool) → eqb x.feed f ≡ b → NextFrom (k + 1) xs 0 (find (λ u. eqb u.1.feed f) (enumerate_from (k + 1) xs)) → NextFrom k (x ∷ xs) 0 (find (λ u. eqb u.1.feed f) (enumerate_from k (x ∷ xs)))
       by true t _ = rw t (0, omega arith, record { within = omega arith; here = refl; own = eqb-true _ _ t; none = refl })
-      by false t e = rw t (passed k x xs t _ e)
+      by false t e = rw t (missed k x xs t _ e)
   next_from k (suc i) (x ∷ xs) = skipped k i x xs _ (next_from (k + 1) i xs)
 
   -- what the executor looks for
@@ -78,6 +80,12 @@ module _ (f : ℕ) where
       by None n = n
       by (Some x) n = let z : x.0 ≡ n.0 = omega (arith, n.1) in rw z n.2
 
+-- a notice of another feed adds none to those of this one
+pub passed : (notices : List Notice) (f i : ℕ) (d : Notice) → i < length notices → ((get_or notices i d).feed ≡ f → ⊥) → of_feed f (take (i + 1) notices) ≡ of_feed f (take i notices)
+passed notices f i d h ne =
+    let t : eqb (get_or notices i d).feed f ≡ false = ne_eqb _ _ ne in
+    rw (filter_more (λ (u : Notice). eqb u.feed f) notices i d h, t) (append-nil (of_feed f (take i notices)))
+
 -- one more at the end
 pushed : {X : Type 0} (p : X → Bool) (h : X → ℕ) (xs : List X) (x : X) → map h (filter p (xs ++ x ∷ [])) ≡ map h (filter p xs) ++ cond (p x) (h x ∷ []) []
 pushed p h xs x = rw (filter-append p xs (x ∷ []), map-append h (filter p xs) (cond (p x) (x ∷ []) [])) (ap (λ u. map h (filter p xs) ++ u) (by (p x)))
@@ -86,9 +94,16 @@ pushed p h xs x = rw (filter-append p xs (x ∷ []), map-append h (filter p xs) 
     by true = refl
     by false = refl
 
+pub booked-push : (k : ℕ) (ds : List Delivery) (d : Delivery) → booked k (ds ++ d ∷ []) ≡ booked k ds ++ cond (eqb d.room k) (d.id ∷ []) []
+booked-push k ds d = pushed (λ (u : Delivery). eqb u.room k) (λ u. u.id) ds d
+
 cond_nil : {A : Type 0} (b : Bool) → ◌≡◌ {A = List A} (cond b [] []) []
 cond_nil true = refl
 cond_nil false = refl
+
+-- an answer is no want of memory
+pub answered : {A : Type 0} (x : A) → ◌≡◌ {A = Result A Halt} (Ok x) (Err Memory) → ⊥
+answered x e = absurd cc
 
 -- what the book gains by a poll of the room k
 abbrev pub delivers : ℕ → ReceiveAnswer ℕ → List Delivery
@@ -96,7 +111,7 @@ delivers k (Ok (Element x _)) = record { room = k; id = x } ∷ []
 delivers k _ = []
 
 booked-delivers : (j k : ℕ) (ds : List Delivery) (r : ReceiveAnswer ℕ) → booked j (ds ++ delivers k r) ≡ booked j ds ++ cond (eqb k j) (gives r) []
-booked-delivers j k ds (Ok (Element x _)) = pushed (λ (d : Delivery). eqb d.room j) (λ d. d.id) ds (record { room = k; id = x })
+booked-delivers j k ds (Ok (Element x _)) = booked-push j ds (record { room = k; id = x })
 booked-delivers j k ds _ = rw (append-nil ds, cond_nil) (sym (append-nil (booked j ds)))
 
 end_delivers : (k : ℕ) (r : ReceiveAnswer ℕ) → ends r ≡ true → delivers k r ≡ []
@@ -122,9 +137,8 @@ module _ {n v : ℕ} {notices sent : List Notice} {c : Channels} {ms : Mems ℕ}
         ((k : ℕ) (ws : List ℕ) → to_room k sent ++ accepted_by k (call r ws) ≡ to_room k sent') →
         ((k : ℕ) (ws : List ℕ) → booked k book ++ given_by k (call r ws) ≡ booked k book') →
         ((f : ℕ) → of_feed f sent' ≡ of_feed f (take (get_or cursors' f 0) notices)) →
-        length cursors' ≡ length cursors →
         Sound n v notices sent' c' ms' book' cursors'
-    sound_more sent' book' cursors' ea eg eo el =
+    sound_more sent' book' cursors' ea eg eo =
         let o = s.others in let m = s.meaning in
         let ws = (step (facts c ms) m).named in
         record {
@@ -137,21 +151,20 @@ module _ {n v : ℕ} {notices sent : List Notice} {c : Channels} {ms : Mems ℕ}
           accepts = λ k. ap (λ (u : List ℕ). u ++ accepted_by k (call r ws)) (s.accepts k) ∙ ea k ws;
           gives = λ k. ap (λ (u : List ℕ). u ++ given_by k (call r ws)) (s.gives k) ∙ eg k ws;
           order = eo;
-          feeds = el ∙ s.feeds;
         }
 
   -- a sender leaves
   pub sound_left : (k : ℕ) (c' : Channels) (ms' : Mems ℕ) (r : CloseAnswer) → Does (λ f m. close_sender_step f m k) c ms c' ms' r → Chronicles (closes_sender k) (λ f m. close_sender_step f m k) c ms r →
       Sound n v notices sent c' ms' book cursors
   sound_left k c' ms' r d t =
-      sound_more (closes_sender k) (λ f m. close_sender_step f m k) c' ms' r d t (λ _ _. refl) sent book cursors (λ j _. append-nil (to_room j sent)) (λ j _. append-nil (booked j book)) s.order refl
+      sound_more (closes_sender k) (λ f m. close_sender_step f m k) c' ms' r d t (λ _ _. refl) sent book cursors (λ j _. append-nil (to_room j sent)) (λ j _. append-nil (booked j book)) s.order
 
   -- a room is polled: what it is given is booked
   pub sound_polled : (k w : ℕ) (c' : Channels) (ms' : Mems ℕ) (r : ReceiveAnswer ℕ) → Does (λ f m. receive_step f m k w) c ms c' ms' r → Chronicles (receives k w) (λ f m. receive_step f m k w) c ms r →
       Sound n v notices sent c' ms' (book ++ delivers k r) cursors
   sound_polled k w c' ms' r d t =
       sound_more (receives k w) (λ f m. receive_step f m k w) c' ms' r d t (λ _ _. refl) sent (book ++ delivers k r) cursors
-      (λ j _. append-nil (to_room j sent)) (λ j _. sym (booked-delivers j k book r)) s.order refl
+      (λ j _. append-nil (to_room j sent)) (λ j _. sym (booked-delivers j k book r)) s.order
 
   -- a feed's place moves on over notices of others
   module _ (feed from : ℕ) (at : slice_get cursors feed ≡ Some from) where
@@ -165,9 +178,9 @@ module _ {n v : ℕ} {notices sent : List Notice} {c : Channels} {ms : Mems ℕ}
         (λ (ne : f ≡ feed → ⊥). rw (get_or-set_other cursors feed f p 0 ne) (s.order f))
         (cases_eq f feed)
 
-    -- it has none left
-    pub sound_done : None ≡ next_in feed from notices → Sound n v notices sent c ms book (set cursors feed (length notices))
-    sound_done e =
+    -- up to any place before which it has none
+    pub sound_moved : (p : ℕ) → of_feed feed (take p notices) ≡ of_feed feed (take from notices) → Sound n v notices sent c ms book (set cursors feed p)
+    sound_moved p e =
         record {
           history = s.history;
           others = s.others;
@@ -177,9 +190,12 @@ module _ {n v : ℕ} {notices sent : List Notice} {c : Channels} {ms : Mems ℕ}
           open_ends = s.open_ends;
           accepts = s.accepts;
           gives = s.gives;
-          order = order_at (length notices) (ap (of_feed feed) (take_all (length notices) notices (omega arith)) ∙ next_found feed from notices None e);
-          feeds = length-set cursors feed (length notices) ∙ s.feeds;
+          order = order_at p e;
         }
+
+    -- it has none left
+    pub sound_done : None ≡ next_in feed from notices → Sound n v notices sent c ms book (set cursors feed (length notices))
+    sound_done e = sound_moved (length notices) (ap (of_feed feed) (take_all (length notices) notices (omega arith)) ∙ next_found feed from notices None e)
 
     -- behind a notice of its own, which was polled
     module _ (i : ℕ) (note : Notice) (found : Some (i, note) ≡ next_in feed from notices) (w : ℕ) (c' : Channels) (ms' : Mems ℕ) where
@@ -204,16 +220,16 @@ module _ {n v : ℕ} {notices sent : List Notice} {c : Channels} {ms : Mems ℕ}
       accepted_one : (a : ℕ) → Does step c ms c' ms' (Ok (Sent a)) → Chronicles (sends note.room w note.id) step c ms (Ok (Sent a)) → Sound n v notices (sent ++ note ∷ []) c' ms' book (set cursors feed (i + 1))
       accepted_one a d t =
           sound_more (sends note.room w note.id) step c' ms' (Ok (Sent a)) d t (λ _ _. refl) (sent ++ note ∷ []) book (set cursors feed (i + 1))
-          (λ k ws. rw (and-true (eqb note.room k)) (sym (pushed (λ (u : Notice). eqb u.room k) (λ u. u.id) sent note))) (λ k _. append-nil (booked k book)) order_more (length-set cursors feed (i + 1))
+          (λ k ws. rw (and-true (eqb note.room k)) (sym (pushed (λ (u : Notice). eqb u.room k) (λ u. u.id) sent note))) (λ k _. append-nil (booked k book)) order_more
 
       module _ (r : SendAnswer ℕ) (d : Does step c ms c' ms' r) (t : Chronicles (sends note.room w note.id) step c ms r) (no : accepts r ≡ false) where
-        unsent : (cursors' : List ℕ) → ((f : ℕ) → of_feed f sent ≡ of_feed f (take (get_or cursors' f 0) notices)) → length cursors' ≡ length cursors → Sound n v notices sent c' ms' book cursors'
-        unsent cursors' eo el =
+        unsent : (cursors' : List ℕ) → ((f : ℕ) → of_feed f sent ≡ of_feed f (take (get_or cursors' f 0) notices)) → Sound n v notices sent c' ms' book cursors'
+        unsent cursors' eo =
             sound_more (sends note.room w note.id) step c' ms' r d t (λ _ _. refl) sent book cursors'
-            (λ k ws. rw (no, and-false (eqb note.room k)) (append-nil (to_room k sent))) (λ k _. append-nil (booked k book)) eo el
+            (λ k ws. rw (no, and-false (eqb note.room k)) (append-nil (to_room k sent))) (λ k _. append-nil (booked k book)) eo
 
         kept : Sound n v notices sent c' ms' book (set cursors feed i)
-        kept = unsent (set cursors feed i) (order_at i next.none) (length-set cursors feed i)
+        kept = unsent (set cursors feed i) (order_at i next.none)
 
       -- with the place behind it if it was accepted, and else with its own
       pub sound_sent : (r : SendAnswer ℕ) → Does step c ms c' ms' r → Chronicles (sends note.room w note.id) step c ms r → (o : Sending) → Ok o ≡ outcome_of note r →
@@ -232,8 +248,8 @@ module _ {n v : ℕ} {notices sent : List Notice} {c : Channels} {ms : Mems ℕ}
           Sound n v notices sent c' ms' book cursors
       sound_refused (Ok (Sent a)) d t why e = absurd cc
       sound_refused (Ok (Wait a)) d t why e = absurd cc
-      sound_refused (Ok (Closed a)) d t why e = unsent (Ok (Closed a)) d t refl cursors s.order refl
-      sound_refused (Err a) d t why e = unsent (Err a) d t refl cursors s.order refl
+      sound_refused (Ok (Closed a)) d t why e = unsent (Ok (Closed a)) d t refl cursors s.order
+      sound_refused (Err a) d t why e = unsent (Err a) d t refl cursors s.order
 
 -- a list whose front is all of it has nothing behind
 nothing_behind : {A : Type 0} (xs ys : List A) → none ys ≡ true → xs ++ ys ≡ xs
@@ -284,14 +300,14 @@ module _ {n v : ℕ} {notices sent : List Notice} {c : Channels} {ms : Mems ℕ}
   pub all_sent : (v' : ℕ) → ((f : ℕ) → f < v' → length notices ≤ get_or cursors f 0) → (f : ℕ) → f < v' → of_feed f sent ≡ of_feed f notices
   all_sent v' e f h = s.order f ∙ ap (of_feed f) (take_all (get_or cursors f 0) notices (e f h))
 
-zeros : (n f : ℕ) → ◌≡◌ {A = ℕ} (get_or (replicate n 0) f 0) 0
+pub zeros : (n f : ℕ) → ◌≡◌ {A = ℕ} (get_or (replicate n 0) f 0) 0
 zeros zero f = refl
 zeros (suc n) zero = refl
 zeros (suc n) (suc f) = zeros n f
 
 -- just opened: nothing was sent or delivered
-pub sound_new : (n v : ℕ) (notices : List Notice) (c : Channels) (ms : Mems ℕ) (o : Others ℕ) → Represents c ms o (opened n v) → Sound n v notices [] c ms [] (replicate v 0)
-sound_new n v notices c ms o rep = record {
+pub sound_new : (n v : ℕ) (notices : List Notice) (c : Channels) (ms : Mems ℕ) (o : Others ℕ) (cursors : List ℕ) → Represents c ms o (opened n v) → ((f : ℕ) → get_or cursors f 0 ≡ 0) → Sound n v notices [] c ms [] cursors
+sound_new n v notices c ms o cursors rep z = record {
   history = [];
   others = o;
   meaning = opened n v;
@@ -300,16 +316,15 @@ sound_new n v notices c ms o rep = record {
   open_ends = λ _. refl;
   accepts = λ _. refl;
   gives = λ _. refl;
-  order = λ f. rw (zeros v f) refl;
-  feeds = length-replicate v 0;
+  order = λ f. rw (z f) refl;
 }
 
 -- no room was asked yet
-pub emptied_none : (notices : List Notice) (f : Floor) → Emptied 0 notices (vec_items f.cursors) f f
+pub emptied_none : (notices : List Notice) (f : Floor) → Emptied 0 notices f.cursors f f
 emptied_none notices f = record { places = refl; rooms = λ n v sent s. (s, λ k h. absurd (omega arith)) }
 
 -- one room more was told the end
-pub emptied_more : (i : ℕ) (notices : List Notice) (cs : List ℕ) (f f' f'' : Floor) (b : Bool) → Emptied i notices cs f f' → Drained b i f' f'' → vec_items f''.cursors ≡ vec_items f'.cursors → b ≡ true → Emptied (i + 1) notices cs f f''
+pub emptied_more : (i : ℕ) (notices : List Notice) (cs : List ℕ) (f f' f'' : Floor) (b : Bool) → Emptied i notices cs f f' → Drained b i f' f'' → f''.cursors ≡ f'.cursors → b ≡ true → Emptied (i + 1) notices cs f f''
 emptied_more i notices cs f f' f'' b e d ec t = record {
   places = ec ∙ e.places;
   rooms = λ n v sent s.
@@ -320,9 +335,8 @@ emptied_more i notices cs f f' f'' b e d ec t = record {
 }
 
 -- all rooms were told the end, and all feeds are at theirs
-pub delivered : (rooms : ℕ) (notices : List Notice) (f f' : Floor) → Emptied rooms notices (vec_items f.cursors) f f' → EachIndex (vec_items f.cursors) (λ j. length notices ≤ get_or (vec_items f.cursors) j 0) → Settles rooms notices f f'
-delivered rooms notices f f' e z n v sent s =
-    (sent, (all_sent s v (λ j h. let l = s.feeds in z j (omega arith)), (e.rooms n v sent s).1))
+pub delivered : (rooms feeds : ℕ) (notices : List Notice) (f f' : Floor) → Emptied rooms notices f.cursors f f' → ((j : ℕ) → j < feeds → length notices ≤ get_or f.cursors j 0) → Settles rooms feeds notices f f'
+delivered rooms feeds notices f f' e z n v sent s = (sent, (all_sent s feeds z, (e.rooms n v sent s).1))
 
 -- onward by no call, and by one stretch after another
 pub onward_none : (notices : List Notice) (f : Floor) → Onward notices f f

@@ -1,5 +1,5 @@
 -- Notices, the book of deliveries, and what ties both to the channels' history. Assumes nothing.
-use Rattle.std.specs.Prelude.{◌≡◌, ℕ, ◌<◌, Bool, true, false, List, [], ◌∷◌, ◌++◌, length, map, take, Ok, Err, vec_items, filter, Result, ◌==◌, nat_eq, slice_index}
+use Rattle.std.specs.Prelude.{◌≡◌, ℕ, ◌<◌, Bool, true, false, List, [], ◌∷◌, ◌++◌, map, take, Ok, Err, vec_items, filter, Result, ◌==◌, nat_eq, slice_index}
 use Rattle.refusal.specs.declared.Refusal.{Refusal}
 use Rattle.refusal.specs.declared.Refusal.TheVariants.{Cells, Places, Closed as Shut}
 use Rattle.distributor_channels.specs.declared.SendPoll.TheVariants.{Wait, Closed, Sent as Accepted}
@@ -31,7 +31,7 @@ booked k ds = map (λ d. d.id) (filter (λ d. d.room == k) ds)
 
 -- Some list of calls on n channels opened with v senders led to what the floor has. No receiver was closed; sent are the notices accepted,
 -- in order; the book has for each room just what its receiver was given, in order; and of each feed's notices those before its cursor were
--- accepted, in their order. Each of the v feeds has a cursor.
+-- accepted, in their order.
 pub record Sound (n v : ℕ) (notices sent : List Notice) (c : Channels) (ms : Mems ℕ) (book : List Delivery) (cursors : List ℕ) : Type 0 where
   pub history : List (Event ℕ)
   pub others : Others ℕ
@@ -42,10 +42,9 @@ pub record Sound (n v : ℕ) (notices sent : List Notice) (c : Channels) (ms : M
   pub accepts : (k : ℕ) → accepted k history ≡ to_room k sent
   pub gives : (k : ℕ) → given k history ≡ booked k book
   pub order : (f : ℕ) → of_feed f sent ≡ of_feed f (take (slice_index cursors f) notices)
-  pub feeds : length cursors ≡ v
 
 abbrev pub Stands : ℕ → ℕ → List Notice → List Notice → Floor → Type 0
-Stands n v notices sent f = Sound n v notices sent f.channels (seen f.memories) (vec_items f.book) (vec_items f.cursors)
+Stands n v notices sent f = Sound n v notices sent f.channels (seen f.memories) (vec_items f.book) f.cursors
 
 -- what stood still stands
 abbrev pub Keeps : Floor → Floor → Type 0
@@ -90,16 +89,16 @@ Drained b k f f' = (n v : ℕ) (notices sent : List Notice) → Stands n v notic
 
 -- everything accepted for the first i rooms is in the book, and the feeds' places are still cs
 pub record Emptied (i : ℕ) (notices : List Notice) (cs : List ℕ) (f f' : Floor) : Type 0 where
-  pub places : vec_items f'.cursors ≡ cs
+  pub places : f'.cursors ≡ cs
   pub rooms : (n v : ℕ) (sent : List Notice) → Stands n v notices sent f → Stands n v notices sent f' × ((k : ℕ) → k < i → booked k (vec_items f'.book) ≡ to_room k sent)
 
 -- Everything was delivered: in some order that keeps each feed's own, the notices of the v feeds are what the book has, room by room, for n rooms.
 abbrev pub Delivered : ℕ → ℕ → List Notice → List Delivery → Type 0
 Delivered n v notices book = (sent : List Notice) × (((f : ℕ) → f < v → of_feed f sent ≡ of_feed f notices) × ((k : ℕ) → k < n → booked k book ≡ to_room k sent))
 
--- all that the floor stands for was delivered to so many rooms
-abbrev pub Settles : ℕ → List Notice → Floor → Floor → Type 0
-Settles rooms notices f f' = (n v : ℕ) (sent : List Notice) → Stands n v notices sent f → Delivered rooms v notices (vec_items f'.book)
+-- all that the floor stands for was delivered, from so many feeds to so many rooms
+abbrev pub Settles : ℕ → ℕ → List Notice → Floor → Floor → Type 0
+Settles rooms feeds notices f f' = (n v : ℕ) (sent : List Notice) → Stands n v notices sent f → Delivered rooms feeds notices (vec_items f'.book)
 
 -- from one floor to the next by calls alone: what stood still stands, with some more notices accepted
 abbrev pub Onward : List Notice → Floor → Floor → Type 0

@@ -9,9 +9,11 @@
 // the gate or the memory stops them.
 #![tactic(auto)]
 
-ghost use Rattle.std.specs.Prelude.{◌≡◌, ◌==◌, ◌≤◌, ◌↔◌, ℕ, true, List, [], Ok, IfOk, IsTrue, EachIndex, drop, find, slice_index};
+ghost use Rattle.std.specs.Prelude.{◌≡◌, ◌≢◌, ◌==◌, ◌<◌, ◌≤◌, ◌↔◌, ℕ, true, List, [], length, Some, Ok, Err, IfOk, IsTrue, drop, find, slice_index};
 ghost use Rattle.std.specs.List.{enumerate_from};
+ghost use Rattle.executor.specs.declared.run.Halt.TheVariants.{Memory};
 ghost use Rattle.executor.specs.Books.{Stands, Keeps, Sends, Drained, Settles, outcome_of, advance, told_end};
+ghost use Rattle.executor.specs.Texts.{sending_text};
 
 pub mod run;
 mod tasks;
@@ -79,6 +81,8 @@ impl Sending {
 
 // What is said of the feed.
 impl fmt::Display for Sending {
+    ghost output = { λ sending. Some (sending_text sending) };
+
     fn fmt<W: fmt::Write>(&self, f: &mut fmt::Formatter<W>) -> fmt::Result {
         match self {
             Sending::Sent(Notice { room, id, .. }, _) => write!(f, "sends {id} to room {room}"),
@@ -97,12 +101,14 @@ impl fmt::Display for Sending {
 fn next_of(notices: &[Notice], feed: usize, from: usize) -> Option<(usize, Notice)>
     ensures { result ≡ find (λ x. x.1.feed == feed) (drop from (enumerate_from 0 notices.now)) }
 {
-    notices
+    // a slice that begins there: `skip` would walk over all that stands before, at each call
+    let ahead = notices.get(from..)?;
+    let (passed, notice) = ahead
         .iter()
         .copied()
         .enumerate()
-        .skip(from)
-        .find(|(_, notice)| notice.feed == feed)
+        .find(|(_, notice)| notice.feed == feed)?;
+    Some((from + passed, notice))
 }
 
 // The channels with their memories, the book of what was delivered, and how far each feed has come in the list of notices.
@@ -111,7 +117,7 @@ pub struct Floor<'a> {
     channels: Channels,
     memories: Memories<'a, u64>,
     book: Vec<Delivery>,
-    cursors: Vec<usize>,
+    cursors: [usize; 32],
 }
 
 impl<'a> Floor<'a> {
@@ -123,7 +129,7 @@ impl<'a> Floor<'a> {
         woken: &'a mut [u32],
         rooms: usize,
         feeds: u32,
-    ) -> Result<Floor<'a>, Halt>
+    ) -> Result<Floor<'a>, Refusal>
         ensures { IfOk result (λ f. (notices : List Notice) → Stands rooms feeds notices [] f) }
     {
         let memories = Memories {
@@ -136,7 +142,7 @@ impl<'a> Floor<'a> {
             channels,
             memories,
             book: Vec::new(heap),
-            cursors: vec![in heap; 0; feeds as usize]?,
+            cursors: [0; 32],
         })
     }
 
@@ -161,16 +167,15 @@ impl<'a> Floor<'a> {
     }
 
     // Polls a room, and books what it is given. If that was the end, everything accepted there is in the book.
+    // Where no memory is left for the book, it lacks what was given.
     fn receive_next(&mut self, room: usize) -> Result<ReceivePoll<u64>, Halt>
-        ensures law { Drained (told_end result) room self.old self.new }
-        ensures places { self.new.cursors.items ≡ self.old.cursors.items }
+        ensures law { result ≢ Err Memory → Drained (told_end result) room self.old self.new }
+        ensures places { self.new.cursors ≡ self.old.cursors }
     {
-        // first of all, so that nothing is taken out that can't be booked
-        self.book.reserve(1)?;
         let waker = Task::Room(room).waker();
         let polled = self.channels.receive_poll(&mut self.memories, room, waker)?;
         if let ReceivePoll::Element(id, _) = polled {
-            self.book.push(Delivery { room, id }).unwrap();
+            self.book.push(Delivery { room, id })?;
         }
         Ok(polled)
     }
@@ -178,7 +183,7 @@ impl<'a> Floor<'a> {
     // Polls a room, and tells whether that was the end.
     fn drained(&mut self, room: usize) -> Result<bool, Halt>
         ensures law { IfOk result (λ b. Drained b room self.old self.new) }
-        ensures places { self.new.cursors.items ≡ self.old.cursors.items }
+        ensures places { self.new.cursors ≡ self.old.cursors }
     {
         match self.receive_next(room) {
             Ok(polled) => Ok(matches!(polled, ReceivePoll::End)),
@@ -188,18 +193,21 @@ impl<'a> Floor<'a> {
         }
     }
 
-    // Have all feeds come to the end of the notices?
-    fn all_at_end(&self, end: usize) -> bool
-        ensures { IsTrue result ↔ EachIndex self.now.cursors.items (λ feed. end ≤ slice_index self.now.cursors.items feed) }
+    // Have all of these feeds come to the end of the notices?
+    fn all_at_end(&self, feeds: usize, end: usize) -> bool
+        ensures { IsTrue result ↔ ((feeds ≤ length self.now.cursors) × ((feed : ℕ) → feed < feeds → end ≤ slice_index self.now.cursors feed)) }
     {
-        self.cursors.iter().all(|cursor| *cursor >= end)
+        match self.cursors.get(..feeds) {
+            Some(cursors) => cursors.iter().all(|cursor| *cursor >= end),
+            None => false,
+        }
     }
 
     // Was everything delivered: has each feed come to its end, and is each room told the end?
-    fn settle(&mut self, notices: &[Notice], rooms: usize) -> Result<bool, Halt>
-        ensures { IfOk result (λ b. b ≡ true → Settles rooms notices.now self.old self.new) }
+    fn settle(&mut self, notices: &[Notice], rooms: usize, feeds: usize) -> Result<bool, Halt>
+        ensures { IfOk result (λ b. b ≡ true → Settles rooms feeds notices.now self.old self.new) }
     {
-        if !self.all_at_end(notices.len()) {
+        if !self.all_at_end(feeds, notices.len()) {
             return Ok(false);
         }
         for room in 0..rooms {

@@ -1,6 +1,7 @@
 // The loop: whose turn it is, what a turn does, and what is said about it.
 ghost use Rattle.std.specs.Prelude.{◌≡◌, true, IfOk, OnOk};
 ghost use Rattle.executor.specs.Books.{Goes, Delivered};
+ghost use Rattle.executor.specs.Texts.{halt_text};
 ghost use Rattle.executor.specs.declared.run.Halt.TheVariants.{Refused, Memory, Output};
 
 use crate::tasks::{Ready, Task};
@@ -26,11 +27,13 @@ pub enum Halt {
 }
 
 impl fmt::Display for Halt {
+    ghost output = { halt_text };
+
     fn fmt<W: fmt::Write>(&self, f: &mut fmt::Formatter<W>) -> fmt::Result {
         match self {
             Halt::Refused(_) => write!(f, "a call was refused"),
             Halt::Memory => write!(f, "no memory is left"),
-            Halt::Output(e) => write!(f, "{e}"),
+            Halt::Output(error) => write!(f, "{error}"),
         }
     }
 }
@@ -115,11 +118,11 @@ impl Run<'_, '_> {
         println!(rt; "{task} {sending}")?;
         match sending {
             Sending::Sent(_, named) => {
-                self.ready.add(task)?;
+                self.ready.add(task);
                 self.ready.wake(self.floor.woken(named), rt)?;
             }
             Sending::Waits(_) => {}
-            Sending::Full(_) => self.ready.hold(task)?,
+            Sending::Full(_) => self.ready.hold(task),
             Sending::Done => self.close_all(rt)?,
         }
         Ok(())
@@ -144,8 +147,8 @@ impl Run<'_, '_> {
         match self.floor.receive_next(room)? {
             ReceivePoll::Element(id, named) => {
                 println!(rt; "{task} is given {id}")?;
-                self.ready.add(task)?;
-                self.ready.relieve()?;
+                self.ready.add(task);
+                self.ready.relieve();
                 self.ready.wake(self.floor.woken(named), rt)?;
             }
             ReceivePoll::Wait => println!(rt; "{task} waits")?,
@@ -178,7 +181,7 @@ pub fn deliver<'a, R: Print>(
     ensures { IfOk result (λ o. o.all ≡ true → Delivered rooms feeds notices.now o.floor.book.items) }
 {
     let floor = Floor::open(heap, elements, entries, woken, rooms, feeds)?;
-    let ready = Ready::new(heap, feeds as usize, rooms)?;
+    let ready = Ready::new(feeds as usize, rooms);
     let mut run = Run {
         floor,
         notices,
@@ -187,6 +190,6 @@ pub fn deliver<'a, R: Print>(
     };
     run.go(rt)?;
     let mut floor = run.floor;
-    let all = floor.settle(notices, rooms)?;
+    let all = floor.settle(notices, rooms, feeds as usize)?;
     Ok(Outcome { floor, all })
 }

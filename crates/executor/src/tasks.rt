@@ -1,14 +1,11 @@
 // Tasks, and who of them may be polled.
-use crate::run::Halt;
-use std::alloc::{AllocError, Global};
-use std::collections::BTreeSet;
-use std::fmt;
+use std::{fmt, io};
 
 // The wakers of feeds begin at 0, those of rooms here.
 const FIRST_ROOM: usize = 32;
 
-// A task by its number. Feeds come before rooms.
-#[derive(Clone, Copy, PartialEq, Eq, PartialOrd, Ord)]
+// A task by its number. Feeds come before rooms, as their wakers do.
+#[derive(Clone, Copy, PartialEq, Eq)]
 pub enum Task {
     Feed(usize),
     Room(usize),
@@ -45,39 +42,66 @@ impl fmt::Display for Task {
     }
 }
 
+// A set of tasks: a bit for each waker below 64, so that it takes no heap. The lowest bit is the first task's.
+#[derive(Clone, Copy)]
+struct Tasks(u64);
+
+impl Tasks {
+    // A task whose waker has no bit is nobody's, and stays out.
+    fn insert(&mut self, task: Task) {
+        self.0 |= 1u64.checked_shl(task.waker()).unwrap_or(0);
+    }
+
+    // The first task, which is taken out.
+    fn pop_first(&mut self) -> Option<Task> {
+        let waker = self.0.trailing_zeros();
+        // its bit is the lowest
+        self.0 &= self.0.wrapping_sub(1);
+        (waker < u64::BITS).then_some(Task::from(waker))
+    }
+
+    // All of the others come in, and none is left there.
+    fn append(&mut self, others: &mut Tasks) {
+        self.0 |= others.0;
+        others.0 = 0;
+    }
+}
+
 // Who may be polled, and which feeds found the memory full.
-#[derive(Drop)]
+#[derive(Clone, Copy)]
 pub struct Ready {
-    tasks: BTreeSet<Task>,
-    full: BTreeSet<Task>,
+    tasks: Tasks,
+    full: Tasks,
 }
 
 impl Ready {
     // All feeds and rooms may be polled.
-    pub fn new(heap: Global, feeds: usize, rooms: usize) -> Result<Ready, AllocError> {
+    pub fn new(feeds: usize, rooms: usize) -> Ready {
+        let mut tasks = Tasks(0);
         let feeds = (0..feeds).map(Task::Feed);
         let rooms = (0..rooms).map(Task::Room);
-        Ok(Ready {
-            tasks: feeds.chain(rooms).collect(heap)?,
-            full: BTreeSet::new(heap),
-        })
+        for task in feeds.chain(rooms) {
+            tasks.insert(task);
+        }
+        Ready {
+            tasks,
+            full: Tasks(0),
+        }
     }
 
     // A task may be polled.
-    pub fn add(&mut self, task: Task) -> Result<(), AllocError> {
-        self.tasks.insert(task)?;
-        Ok(())
+    pub fn add(&mut self, task: Task) {
+        self.tasks.insert(task);
     }
 
     // A feed tries again once something was taken out of the memory.
-    pub fn hold(&mut self, feed: Task) -> Result<(), AllocError> {
-        self.full.insert(feed)?;
-        Ok(())
+    pub fn hold(&mut self, feed: Task) {
+        self.full.insert(feed);
     }
 
     // Something was taken out.
-    pub fn relieve(&mut self) -> Result<(), AllocError> {
-        self.tasks.append(&mut self.full)
+    pub fn relieve(&mut self) {
+        self.tasks.append(&mut self.full);
     }
 
     // The first task that may be polled, which is then not polled again until it may.
@@ -86,10 +110,10 @@ impl Ready {
     }
 
     // The tasks whose wakers were named are told, and may be polled.
-    pub fn wake(&mut self, named: &[u32], rt: &impl Print) -> Result<(), Halt> {
+    pub fn wake(&mut self, named: &[u32], rt: &impl Print) -> io::Result<()> {
         for waker in named {
             let task = Task::from(*waker);
-            self.add(task)?;
+            self.add(task);
             println!(rt; "    wakes {task}")?;
         }
         Ok(())

@@ -8,8 +8,8 @@ returns-in_ok-wake-in-Sent g c = (refl, λ n v sent s. (_, c.send_next.ensures n
 pub returns-in-Waits : goal.returns-in-Waits
 returns-in-Waits g c = (refl, λ n v sent s. (_, c.send_next.ensures n v sent s))
 
-pub returns-in_ok-hold-in-Full : goal.returns-in_ok-hold-in-Full
-returns-in_ok-hold-in-Full g c = (refl, λ n v sent s. (_, c.send_next.ensures n v sent s))
+pub returns-in-Full : goal.returns-in-Full
+returns-in-Full g c = (refl, λ n v sent s. (_, c.send_next.ensures n v sent s))
 
 pub returns-in_ok-close_all-in-Done : goal.returns-in_ok-close_all-in-Done
 returns-in_ok-close_all-in-Done g c =
