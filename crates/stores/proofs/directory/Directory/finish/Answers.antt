@@ -1,5 +1,5 @@
 -- No open file, or only the mark changes.
-use Rattle.std.proofs.Common.{refl}
+use Rattle.std.proofs.Common.{refl, arith}
 use Rattle.std.proofs.lemmas.Result.{err_from_is_err_and}
 use Rattle.stores.proofs.Entries.{finish_order}
 use Rattle.stores.proofs.Replies.{finishes, no_finish}
@@ -11,7 +11,7 @@ returns-in_err-i c =
     rw (p.1, p.2) (no_finish c.args.self.now c.args.file _ c.in_err-i.ensures)
 
 pub invariant_of-self : goal.invariant_of-self
-invariant_of-self c = record { order = finish_order c.args.self.now.order c.in_ok-i.i c.in_ok-i.ensures.0 c.in_ok-i.ensures.1 }
+invariant_of-self c = record { order = finish_order c.args.self.now.order _ (omega (arith, c.in_ok-i.ensures.0)) (omega (arith, c.in_ok-i.ensures.0, c.in_ok-i.ensures.1)) }
 
 pub returns : goal.returns
 returns c = finishes c.args.self.now _ c.in_ok-i.i c.args.file c.in_ok-i.ensures refl refl refl refl
