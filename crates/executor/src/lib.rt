@@ -101,7 +101,7 @@ impl fmt::Display for Sending {
 fn next_of(notices: &[Notice], feed: usize, from: usize) -> Option<(usize, Notice)>
     ensures { result ≡ find (λ x. x.1.feed == feed) (drop from (enumerate_from 0 notices.now)) }
 {
-    // a slice that begins there: `skip` would walk over all that stands before, at each call
+    // a slice that begins at the place where the feed has come to
     let ahead = notices.get(from..)?;
     let (passed, notice) = ahead
         .iter()
