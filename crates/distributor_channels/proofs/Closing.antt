@@ -1,5 +1,5 @@
 -- The two closes, way by way. Assumes nothing.
-use Rattle.std.proofs.Common.{◌≡◌, ℕ, suc, ◌+◌, ◌-◌, ◌<◌, ◌≤◌, Bool, true, false, not, eqb, ltb, List, [], ◌∷◌, ◌++◌, map, length, set, is_some, Some, None, Ok, Err, filter, Option, sym, refl, ap, ◌∙◌, arith}
+use Rattle.std.proofs.Common.{◌≡◌, ℕ, suc, ◌+◌, ◌-◌, ◌<◌, ◌≤◌, Bool, true, false, not, eqb, ltb, List, [], ◌∷◌, ◌++◌, map, length, take, set, is_some, Some, None, Ok, Err, filter, Option, sym, refl, ap, ◌∙◌, arith}
 use Rattle.std.proofs.lemmas.List.Filters.{length-filter_both}
 use Rattle.std.proofs.lemmas.Bool.{both_ways, lt-ltb, eq-eqb, ne_eqb}
 use Rattle.refusal.specs.declared.Refusal.{Refusal}
@@ -20,7 +20,7 @@ use Rattle.distributor_channels.specs.Steps.{CloseAnswer, close_sender_step, clo
 use Rattle.distributor_channels.specs.Naming.{Names, Empties}
 use Rattle.distributor_channels.specs.Calls.{records, line_of, record_open, Mems, Others, Mark, mark_of, mark, Stands, Represents, facts, Does}
 use Rattle.distributor_channels.proofs.Ways as way
-use Rattle.distributor_channels.proofs.Standing.{no_sender, within, same_mark, same_senders, same_receiver, is_line, is_wait, wait_is, same_open, stands_set, waits_kept, lines_kept, count_at, Found, Lost}
+use Rattle.distributor_channels.proofs.Standing.{take-set, no_sender, within, same_mark, same_senders, same_receiver, is_line, is_wait, wait_is, same_open, stands_set, waits_kept, lines_kept, count_at, Found, Lost}
 use Rattle.distributor_channels.proofs.Sending.{remade, mems, woken_room, finds, finds_not}
 
 -- the record with other entries and senders
@@ -77,16 +77,16 @@ module _ {T : Type 0} (c : Channels) (ms : Mems T) (k : ℕ) where
           let some = count_at m.chans k h in let ct = st.count in omega arith
 
       -- a sender leaves: the record has other entries and fewer senders
-      leaving : (t' : List Channel) (p' : Queue) (v n' : ℕ) (em' : Mem Entry) (es : List Entry) → t' ≡ set (records c) k (left_by_lem ch p' v) →
+      leaving : (t' : List Channel) (p' : Queue) (v n' : ℕ) (em' : Mem Entry) (es : List Entry) → t' ≡ set c.table k (left_by_lem ch p' v) →
           Keeps em' (c.sending ∷ set (map (λ r. r.receiving) (records c) ++ o.waits) k p') (m.sending ∷ set (map (λ c. c.receiving) m.chans ++ o.waiting) k es) →
           n' + bit (is_open (chan m k)) ≡ c.count + bit (is_open (with_senders v (chan m k))) →
-          Stands c.sending t' n' em' ms.elements o (record { chans = set m.chans k (with_receiving es (with_senders v (chan m k))); sending = m.sending })
+          Stands c.sending (take c.n t') n' em' ms.elements o (record { chans = set m.chans k (with_receiving es (with_senders v (chan m k))); sending = m.sending })
       leaving t' p' v n' em' es et kw ct =
           let s = c.sending in let rs = records c in let n = c.count in
           let mk : mark_of (left_by_lem ch p' v) ≡ mark (with_receiving es (with_senders v (chan m k))) = ap (λ (u : Mark). record { receiver = u.receiver; senders = v }) marked in
           let kq = lines_kept s rs n ms.entries ms.elements o m st k ch fd.inside fd.is in
           let z = stands_set s rs n ms.entries ms.elements o m st k ch fd.inside fd.is s (left_by_lem ch p' v) n' em' ms.elements m.sending (with_receiving es (with_senders v (chan m k))) kw kq mk ct in
-          rw et z
+          rw (et, take-set c.n c.table k (left_by_lem ch p' v)) z
 
     pub leave-shut : ch.senders ≡ 0 → Leaves c ms (Err Shut)
     unfolding Represents
@@ -97,7 +97,7 @@ module _ {T : Type 0} (c : Channels) (ms : Mems T) (k : ℕ) where
       sender : (o : Others T) (m : Meaning T) → Ch o m → eqb (chan m k).senders 0 ≡ false
       sender o m st = ne_eqb _ _ (λ e. some (senders_are o m st ∙ e))
 
-      pub leave_fewer : 1 < ch.senders → (v : ℕ) → v ≡ ch.senders - 1 → (t' : List Channel) → t' ≡ set (records c) k (left_by_lem ch ch.receiving v) →
+      pub leave_fewer : 1 < ch.senders → (v : ℕ) → v ≡ ch.senders - 1 → (t' : List Channel) → t' ≡ set c.table k (left_by_lem ch ch.receiving v) →
           Leaves (remade c t' c.sending c.count) ms (Ok 0)
       unfolding Represents
       leave_fewer many v ev t' et o m st =
@@ -111,7 +111,7 @@ module _ {T : Type 0} (c : Channels) (ms : Mems T) (k : ℕ) where
           rw (way.close_sender_fewer (facts c ms) m k (chan m k) (finds c ms k ch fd o m st) (sender o m st) one) (refl, refl, rw ev2 at z, λ u. absurd (both_ways _ u refl))
 
       pub leave_last : ch.senders ≤ 1 → (em' : Mem Entry) (p' : Queue) (w' : List ℕ) (named n' : ℕ) → Names ms.entries ch.receiving ms.woken em' p' w' named →
-          n' ≡ c.count - bit (record_open ch) → (t' : List Channel) → t' ≡ set (records c) k (left_by_lem ch p' 0) →
+          n' ≡ c.count - bit (record_open ch) → (t' : List Channel) → t' ≡ set c.table k (left_by_lem ch p' 0) →
           Leaves (remade c t' c.sending n') (mems ms.elements em' w') (Ok named)
       unfolding Represents
       leave_last few em' p' w' named n' nm en t' et o m st =
@@ -132,7 +132,7 @@ module _ {T : Type 0} (c : Channels) (ms : Mems T) (k : ℕ) where
 
     pub unhear_gone : (q : Queue) → ch.queue ≡ Some q → (n' : ℕ) → n' ≡ c.count - bit (record_open ch) → (xm' : Mem T) (q' : Queue) → Empties ms.elements q xm' q' →
         (em' : Mem Entry) (s' g : Queue) → TakesOut (on k) ms.entries c.sending em' s' g → (em'' : Mem Entry) (g' : Queue) (w' : List ℕ) (named : ℕ) → Names em' g ms.woken em'' g' w' named →
-        (t' : List Channel) → t' ≡ set (records c) k (unheard_by ch) → Unhears (remade c t' s' n') (mems xm' em'' w') (Ok named)
+        (t' : List Channel) → t' ≡ set c.table k (unheard_by ch) → Unhears (remade c t' s' n') (mems xm' em'' w') (Ok named)
     unfolding Represents
     unhear_gone q eq n' en xm' q' a em' s' g to em'' g' w' named nm t' et o m st =
         let s = c.sending in let rs = records c in let n = c.count in
@@ -155,7 +155,7 @@ module _ {T : Type 0} (c : Channels) (ms : Mems T) (k : ℕ) where
         let kq : Keeps xm' (set (map (λ r. line_of r.queue) rs ++ o.lines) k empty) (set (map (λ c. c.queue) m.chans ++ o.queued) k []) = rw set-set at (keeps_reset xm' _ _ k kq0 here.0 nil) in
         let mk : mark_of (unheard_by ch) ≡ mark (unheard (chan m k)) = ap (λ (u : Mark). record { receiver = false; senders = u.senders }) (marked o m st) in
         let z = stands_set s rs n ms.entries ms.elements o m st k ch fd.inside fd.is s' (unheard_by ch) n' em'' xm' left (unheard (chan m k)) kw kq mk (counted_out o m st n' en) in
-        let z2 : Stands s' t' n' em'' xm' o (record { chans = set m.chans k (unheard (chan m k)); sending = left }) = rw et z in
+        let z2 : Stands s' (take c.n t') n' em'' xm' o (record { chans = set m.chans k (unheard (chan m k)); sending = left }) = rw (et, take-set c.n c.table k (unheard_by ch)) z in
         rw (way.close_receiver_gone (facts c ms) m k (chan m k) (finds c ms k ch fd o m st) (receiver_is o m st (Some q) eq)) (ap Ok d.2, d.1, z2, λ u. absurd (both_ways _ u refl))
       where
         fewer_out : (o : Others T) (m : Meaning T) → Ch o m → length (filter (on k) m.sending) ≤ length ms.woken

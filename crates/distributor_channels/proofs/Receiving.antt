@@ -1,5 +1,5 @@
 -- A receive poll, way by way. Assumes nothing.
-use Rattle.std.proofs.Common.{◌≡◌, ℕ, suc, ◌+◌, ◌<◌, ◌≤◌, Bool, true, false, eqb, ltb, List, [], ◌∷◌, ◌++◌, map, length, set, is_some, is_ok, Some, None, Ok, Err, Option, Result, sym, refl, ap, ◌∙◌, ⊎_elim, arith}
+use Rattle.std.proofs.Common.{◌≡◌, ℕ, suc, ◌+◌, ◌<◌, ◌≤◌, Bool, true, false, eqb, ltb, List, [], ◌∷◌, ◌++◌, map, length, take, set, is_some, is_ok, Some, None, Ok, Err, Option, Result, sym, refl, ap, ◌∙◌, ⊎_elim, arith}
 use Rattle.std.proofs.lemmas.Bool.{both_ways, cases_lt, ltb-true, ltb-false, eq-eqb, ne_eqb, and_parts, and_from, cases_Bool}
 use Rattle.std.proofs.lemmas.List.{get_or-set_same}
 use Rattle.bank.proofs.Laws.{is_here, keeps_same, keeps_len}
@@ -17,7 +17,7 @@ use Rattle.distributor_channels.specs.Steps.{ReceiveAnswer, receive_step}
 use Rattle.distributor_channels.specs.Naming.{Names}
 use Rattle.distributor_channels.specs.Calls.{records, line_of, record_open, Mems, Others, mark_of, mark, Stands, Represents, facts, Does}
 use Rattle.distributor_channels.proofs.Ways as way
-use Rattle.distributor_channels.proofs.Standing.{no_queue, none_is, same_length, within, same_mark, same_senders, same_receiver, is_line, is_wait, line_is, wait_is, stands_set, waits_kept, lines_kept, count_room, Found, unwritten, Lost}
+use Rattle.distributor_channels.proofs.Standing.{take-set, no_queue, none_is, same_length, within, same_mark, same_senders, same_receiver, is_line, is_wait, line_is, wait_is, stands_set, waits_kept, lines_kept, count_room, Found, unwritten, Lost}
 use Rattle.distributor_channels.proofs.Sending.{remade, requeued, requeued_same, mems, woken_room, finds, finds_not}
 
 module _ {T : Type 0} (c : Channels) (ms : Mems T) (k w : ℕ) where
@@ -63,19 +63,19 @@ module _ {T : Type 0} (c : Channels) (ms : Mems T) (k w : ℕ) where
             let e = nothing _ b.0 in
             (sym (queue_is o m st) ∙ e, (b.2 e).0, (b.2 e).1)
 
-        pub receive_end : ch.senders ≡ 0 → (t' : List Channel) → t' ≡ set (records c) k (requeued ch q' ch.receiving) → Receives (remade c t' c.sending c.count) (mems xm' ms.entries ms.woken) (Ok End)
+        pub receive_end : ch.senders ≡ 0 → (t' : List Channel) → t' ≡ set c.table k (requeued ch q' ch.receiving) → Receives (remade c t' c.sending c.count) (mems xm' ms.entries ms.woken) (Ok End)
         unfolding Represents
         receive_end z t' et o m st =
             let e = empty_is o m st in
             let t : eqb (chan m k).senders 0 ≡ true = eq-eqb _ _ (sym (senders_are o m st) ∙ z) in
-            let same : t' ≡ records c = et ∙ unwritten c (facts c ms).fit k ch _ fd (ap (λ (u : Queue). requeued ch u ch.receiving) e.2 ∙ requeued_same ch q eq) in
+            let same : t' ≡ c.table = et ∙ unwritten c (facts c ms).fit k ch _ fd (ap (λ (u : Queue). requeued ch u ch.receiving) e.2 ∙ requeued_same ch q eq) in
             rw (e.1, same, way.receive_end (facts c ms) m k (chan m k) (finds c ms k ch fd o m st) w (receiver_is o m st (Some q) eq) e.0 t) (refl, refl, st, λ u. absurd (both_ways _ u refl))
 
         module _ (some : ch.senders ≡ 0 → ⊥) (em' : Mem Entry) (p' : Queue) (r : Result (Unit {0}) Entry) (d : Adds ms.entries ch.receiving (entry w k) em' p' r) where
           sender : (o : Others T) (m : Meaning T) → Ch o m → eqb (chan m k).senders 0 ≡ false
           sender o m st = ne_eqb _ _ (λ e. some (senders_are o m st ∙ e))
 
-          pub receive_full : is_ok r ≡ false → (t' : List Channel) → t' ≡ set (records c) k (requeued ch q' p') → Receives (remade c t' c.sending c.count) (mems xm' em' ms.woken) (Err Places)
+          pub receive_full : is_ok r ≡ false → (t' : List Channel) → t' ≡ set c.table k (requeued ch q' p') → Receives (remade c t' c.sending c.count) (mems xm' em' ms.woken) (Err Places)
           unfolding Represents
           receive_full bad t' et o m st =
               let e = empty_is o m st in
@@ -85,11 +85,11 @@ module _ {T : Type 0} (c : Channels) (ms : Mems T) (k w : ℕ) where
               (λ (h : freed ms.entries ≤ 0).
               let f : eqb (freed ms.entries) 0 ≡ true = eq-eqb _ _ (omega arith) in
               let n = b.1 (omega arith) in
-              let same : t' ≡ records c = et ∙ unwritten c (facts c ms).fit k ch _ fd (ap (λ (u : Queue). requeued ch u p') e.2 ∙ (ap (λ (u : Queue). requeued ch q u) n.2 ∙ requeued_same ch q eq)) in
+              let same : t' ≡ c.table = et ∙ unwritten c (facts c ms).fit k ch _ fd (ap (λ (u : Queue). requeued ch u p') e.2 ∙ (ap (λ (u : Queue). requeued ch q u) n.2 ∙ requeued_same ch q eq)) in
               rw (e.1, n.1, same, way.receive_full (facts c ms) m k (chan m k) (finds c ms k ch fd o m st) w (receiver_is o m st (Some q) eq) e.0 (sender o m st) f) (refl, refl, st, λ _. (refl, refl)))
               (cases_lt 0 (freed ms.entries))
 
-          pub receive_wait : is_ok r ≡ true → (t' : List Channel) → t' ≡ set (records c) k (requeued ch q' p') →
+          pub receive_wait : is_ok r ≡ true → (t' : List Channel) → t' ≡ set c.table k (requeued ch q' p') →
               Receives (remade c t' c.sending c.count) (mems xm' em' ms.woken) (Ok Await)
           unfolding Represents
           receive_wait good t' et o m st =
@@ -104,15 +104,15 @@ module _ {T : Type 0} (c : Channels) (ms : Mems T) (k w : ℕ) where
               let kq = lines_kept s rs n ms.entries ms.elements o m st k ch fd.inside fd.is in
               let mk = same_mark s rs n ms.entries ms.elements o m st k ch fd.inside fd.is in
               let z = stands_set s rs n ms.entries ms.elements o m st k ch fd.inside fd.is s new n em' ms.elements m.sending (with_receiving (push (chan m k).receiving (entry w k)) (chan m k)) kw kq mk refl in
-              let z2 : Stands s t' n em' ms.elements o (record { chans = set m.chans k (with_receiving (push (chan m k).receiving (entry w k)) (chan m k)); sending = m.sending }) =
-              rw (et, e.2, ← eq) z in
+              let z2 : Stands s (take c.n t') n em' ms.elements o (record { chans = set m.chans k (with_receiving (push (chan m k).receiving (entry w k)) (chan m k)); sending = m.sending }) =
+              rw (et, take-set c.n c.table k (requeued ch q' p'), e.2, ← eq) z in
               rw (e.1, way.receive_wait (facts c ms) m k (chan m k) (finds c ms k ch fd o m st) w (receiver_is o m st (Some q) eq) e.0 (sender o m st) f)
               (refl, refl, z2, λ u. absurd (both_ways _ u refl)))
               (λ (h : freed ms.entries ≤ 0). let n = (b.1 (omega arith)).0 in absurd (both_ways _ (ap is_ok n) good))
               (cases_lt 0 (freed ms.entries))
 
       -- the oldest element was taken
-      module _ (x : T) (a : Takes ms.elements q xm' q' (Some x)) (t' : List Channel) (et : t' ≡ set (records c) k (requeued ch q' ch.receiving)) where
+      module _ (x : T) (a : Takes ms.elements q xm' q' (Some x)) (t' : List Channel) (et : t' ≡ set c.table k (requeued ch q' ch.receiving)) where
         split : (xs : List T) → Some x ≡ oldest xs → xs ≡ x ∷ rest xs
         split [] e = let z : ◌≡◌ {A = ℕ} 0 1 = cc in absurd (omega arith)
         split (y ∷ ys) e = let z : y ≡ x = cc in ap (λ (u : T). u ∷ ys) z
@@ -125,7 +125,7 @@ module _ {T : Type 0} (c : Channels) (ms : Mems T) (k w : ℕ) where
           taking : (s' : Queue) (n' : ℕ) (em' : Mem Entry) (es : List Entry) →
               Keeps em' (s' ∷ (map (λ r. r.receiving) (records c) ++ o.waits)) (es ∷ (map (λ c. c.receiving) m.chans ++ o.waiting)) →
               n' + bit (is_open (chan m k)) ≡ c.count + bit (is_open (with_queue (rest (chan m k).queue) (chan m k))) →
-              Stands s' t' n' em' xm' o (record { chans = set m.chans k (with_queue (rest (chan m k).queue) (chan m k)); sending = es })
+              Stands s' (take c.n t') n' em' xm' o (record { chans = set m.chans k (with_queue (rest (chan m k).queue) (chan m k)); sending = es })
           taking s' n' em' es kw ct =
               let s = c.sending in let rs = records c in let n = c.count in
               let kq = rw (queue_is o m st) at (a _ _ k st.queued (line o m st)).1 in
@@ -134,7 +134,7 @@ module _ {T : Type 0} (c : Channels) (ms : Mems T) (k w : ℕ) where
               let kw2 = waits_kept s' rs n em' ms.elements o m2 st2 k ch fd.inside fd.is in
               let mk : mark_of (requeued ch q' ch.receiving) ≡ mark (chan m k) = rw (receiver_is o m st (Some q) eq, senders_are o m st) refl in
               let z = stands_set s rs n ms.entries ms.elements o m st k ch fd.inside fd.is s' (requeued ch q' ch.receiving) n' em' xm' es (with_queue (rest (chan m k).queue) (chan m k)) kw2 kq mk ct in
-              rw et z
+              rw (et, take-set c.n c.table k (requeued ch q' ch.receiving)) z
 
           -- before, the channel did not count
           counted_not : bit (is_open (chan m k)) ≡ 0

@@ -1,5 +1,5 @@
 -- A send poll, way by way. Assumes nothing.
-use Rattle.std.proofs.Common.{◌≡◌, ℕ, suc, ◌+◌, ◌-◌, ◌<◌, ◌≤◌, true, false, ◌&&◌, eqb, ltb, leb, List, [], ◌++◌, map, length, set, is_some, Some, None, Ok, Err, Option, sym, refl, ap, ◌∙◌, ⊎_elim, arith}
+use Rattle.std.proofs.Common.{◌≡◌, ℕ, suc, ◌+◌, ◌-◌, ◌<◌, ◌≤◌, true, false, ◌&&◌, eqb, ltb, leb, List, [], ◌++◌, map, length, take, set, is_some, Some, None, Ok, Err, Option, sym, refl, ap, ◌∙◌, ⊎_elim, arith}
 use Rattle.std.proofs.lemmas.Bool.{both_ways, cases_lt, lt-ltb, le-ltb, leb-true, eq-eqb, ne_eqb, and_parts}
 use Rattle.refusal.specs.declared.Refusal.{Refusal}
 use Rattle.refusal.specs.declared.Refusal.TheVariants.{Cells, Places, Closed as Shut}
@@ -16,11 +16,11 @@ use Rattle.distributor_channels.specs.Steps.{SendAnswer, find, back, send_step}
 use Rattle.distributor_channels.specs.Naming.{Names}
 use Rattle.distributor_channels.specs.Calls.{records, line_of, Mems, Others, mark_of, mark, Stands, Represents, facts, Does}
 use Rattle.distributor_channels.proofs.Ways as way
-use Rattle.distributor_channels.proofs.Standing.{no_queue, none_is, none-push, same_length, same_senders, same_receiver, is_line, is_wait, line_is, wait_is, line_len, stands_set, waits_kept, Found, unwritten, Lost, unfit, beyond}
+use Rattle.distributor_channels.proofs.Standing.{take-set, no_queue, none_is, none-push, same_length, same_senders, same_receiver, is_line, is_wait, line_is, wait_is, line_len, stands_set, waits_kept, Found, unwritten, Lost, unfit, beyond}
 
 -- channels and memories with other parts
 abbrev pub remade : Channels → List Channel → Queue → ℕ → Channels
-remade c t s n = record { table = record { items = t }; sending = s; count = n; places = c.places; cells = c.cells }
+remade c t s n = record { n = c.n; table = t; sending = s; count = n; places = c.places; cells = c.cells }
 
 -- the record with another queue, and other entries
 abbrev pub requeued : Channel → Queue → Queue → Channel
@@ -94,7 +94,7 @@ module _ {T : Type 0} where
           shut_is o m st z = eq-eqb _ _ (sym st.count ∙ z)
 
           pub send_wait : c.count ≡ 0 → (em' : Mem Entry) (s' : Queue) → Adds ms.entries c.sending (entry w k) em' s' (Ok tt) →
-              Sends (remade c (records c) s' c.count) (mems ms.elements em' ms.woken) (Ok (Wait x))
+              Sends (remade c c.table s' c.count) (mems ms.elements em' ms.woken) (Ok (Wait x))
           unfolding Represents
           send_wait z em' s' a o m st =
               let b = a _ _ 0 st.waiting (omega arith, refl) in
@@ -107,7 +107,7 @@ module _ {T : Type 0} where
               (cases_lt 0 (freed ms.entries))
 
           pub send_full : c.count ≡ 0 → (em' : Mem Entry) (s' : Queue) (e' : Entry) → Adds ms.entries c.sending (entry w k) em' s' (Err e') →
-              Sends (remade c (records c) s' c.count) (mems ms.elements em' ms.woken) (back Places x)
+              Sends (remade c c.table s' c.count) (mems ms.elements em' ms.woken) (back Places x)
           unfolding Represents
           send_full z em' s' e' a o m st =
               let b = a _ _ 0 st.waiting (omega arith, refl) in
@@ -128,7 +128,7 @@ module _ {T : Type 0} where
                 let e : line_of ch.queue ≡ q = ap line_of eq in
                 rw e at (is_line c.sending (records c) c.count ms.entries ms.elements o m st k ch fd.inside fd.is)
 
-            pub send_short : (xm' : Mem T) (q' : Queue) (y : T) → Adds ms.elements q x xm' q' (Err y) → (t' : List Channel) → t' ≡ set (records c) k (requeued ch q' ch.receiving) →
+            pub send_short : (xm' : Mem T) (q' : Queue) (y : T) → Adds ms.elements q x xm' q' (Err y) → (t' : List Channel) → t' ≡ set c.table k (requeued ch q' ch.receiving) →
                 Sends (remade c t' c.sending c.count) (mems xm' ms.entries ms.woken) (back Cells y)
             unfolding Represents
             send_short xm' q' y a t' et o m st =
@@ -139,7 +139,7 @@ module _ {T : Type 0} where
                 let d = b.1 (omega arith) in
                 let ey : y ≡ x = let e = d.0 in cc in
                 let f : eqb (freed ms.elements) 0 ≡ true = eq-eqb _ _ (omega arith) in
-                let same : t' ≡ records c = et ∙ unwritten c (facts c ms).fit k ch _ fd (ap (λ (u : Queue). requeued ch u ch.receiving) d.2 ∙ requeued_same ch q eq) in
+                let same : t' ≡ c.table = et ∙ unwritten c (facts c ms).fit k ch _ fd (ap (λ (u : Queue). requeued ch u ch.receiving) d.2 ∙ requeued_same ch q eq) in
                 rw (ey, d.1, same, way.send_short (facts c ms) m k (chan m k) (finds c ms k ch fd o m st) w x (some_senders o m st some) (receiver_is o m st (Some q) eq) (open_is o m st) f) (refl, refl, st, λ _. (refl, refl)))
                 (cases_lt 0 (freed ms.elements))
 
@@ -168,7 +168,7 @@ module _ {T : Type 0} where
               marked : (o : Others T) (m : Meaning T) → Ch o m → (p : Queue) → mark_of (requeued ch q' p) ≡ mark (chan m k)
               marked o m st p = let r = receiver_is o m st (Some q) eq in let s = same_senders c.sending (records c) c.count ms.entries ms.elements o m st k ch fd.inside fd.is in rw (r, s) refl
 
-              pub send_behind : (q.len ≡ 0 → ⊥) → (t' : List Channel) → t' ≡ set (records c) k (requeued ch q' ch.receiving) →
+              pub send_behind : (q.len ≡ 0 → ⊥) → (t' : List Channel) → t' ≡ set c.table k (requeued ch q' ch.receiving) →
                   Sends (remade c t' c.sending c.count) (mems xm' ms.entries ms.woken) (Ok (Sent 0))
               unfolding Represents
               send_behind long t' et o m st =
@@ -178,13 +178,13 @@ module _ {T : Type 0} where
                   let ct : n + bit (is_open (chan m k)) ≡ n + bit (is_open (with_queue (push (chan m k).queue x) (chan m k))) = rw (no, none-push (chan m k).queue x) refl in
                   let kw = waits_kept s rs n ms.entries ms.elements o m st k ch fd.inside fd.is in
                   let z = stands_set s rs n ms.entries ms.elements o m st k ch fd.inside fd.is s (requeued ch q' ch.receiving) n ms.entries xm' m.sending (with_queue (push (chan m k).queue x) (chan m k)) kw (kept o m st) (marked o m st ch.receiving) ct in
-                  let z2 : Stands s t' n ms.entries xm' o (record { chans = set m.chans k (with_queue (push (chan m k).queue x) (chan m k)); sending = m.sending }) =
-                  rw et z in
+                  let z2 : Stands s (take c.n t') n ms.entries xm' o (record { chans = set m.chans k (with_queue (push (chan m k).queue x) (chan m k)); sending = m.sending }) =
+                  rw (et, take-set c.n c.table k (requeued ch q' ch.receiving)) z in
                   rw (way.send_behind (facts c ms) m k (chan m k) (finds c ms k ch fd o m st) w x (some_senders o m st some) (receiver_is o m st (Some q) eq) (open_is o m st) (free_is o m st) no)
                   (refl, refl, z2, λ u. absurd (both_ways _ u refl))
 
               pub send_first : q.len ≡ 0 → (em' : Mem Entry) (p' : Queue) (w' : List ℕ) (named : ℕ) → Names ms.entries ch.receiving ms.woken em' p' w' named →
-                  (t' : List Channel) (n' : ℕ) → t' ≡ set (records c) k (requeued ch q' p') → n' ≡ c.count - 1 →
+                  (t' : List Channel) (n' : ℕ) → t' ≡ set c.table k (requeued ch q' p') → n' ≡ c.count - 1 →
                   Sends (remade c t' c.sending n') (mems xm' em' w') (Ok (Sent named))
               unfolding Represents
               send_first short em' p' w' named nm t' n' et en o m st =
@@ -200,6 +200,6 @@ module _ {T : Type 0} where
                   let c2 : bit (is_open new) ≡ 0 = rw (none-push (chan m k).queue x) (no_queue (chan m k).receiver (ltb 0 (chan m k).senders)) in
                   let ct : n' + bit (is_open (chan m k)) ≡ n + bit (is_open new) = omega arith in
                   let z = stands_set s rs n ms.entries ms.elements o m st k ch fd.inside fd.is s (requeued ch q' p') n' em' xm' m.sending new d.0 (kept o m st) (marked o m st p') ct in
-                  let z2 : Stands s t' n' em' xm' o (record { chans = set m.chans k new; sending = m.sending }) = rw et z in
+                  let z2 : Stands s (take c.n t') n' em' xm' o (record { chans = set m.chans k new; sending = m.sending }) = rw (et, take-set c.n c.table k (requeued ch q' p')) z in
                   rw (way.send_first (facts c ms) m k (chan m k) (finds c ms k ch fd o m st) w x (some_senders o m st some) (receiver_is o m st (Some q) eq) (open_is o m st) (free_is o m st) no)
                   (ap (λ (u : ℕ). Ok (Sent u)) er, ew, z2, λ u. absurd (both_ways _ u refl))

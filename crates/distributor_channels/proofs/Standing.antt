@@ -1,7 +1,7 @@
 -- What one changed record does to what is represented. Assumes nothing.
 use Rattle.std.proofs.Common.{◌≡◌, ℕ, zero, suc, ◌+◌, ◌<◌, ◌≤◌, Bool, true, false, ◌&&◌, eqb, List, [], ◌∷◌, ◌++◌, map, length, get_or, set, take, is_some, sym, refl, ap, ◌∙◌, arith, length-append, length-set}
 use lib.ListN.{length-map}
-use Rattle.std.proofs.lemmas.List.{set-get_or, get_or_default, map-set, get_or-map, get_or_append_left, set-append_left}
+use Rattle.std.proofs.lemmas.List.{set-get_or, get_or-take, length-take, map-set, get_or-map, get_or_append_left, set-append_left}
 use Rattle.std.proofs.lemmas.Bool.{ne_eqb}
 use Rattle.refusal.specs.declared.Refusal.{Refusal}
 use Rattle.refusal.specs.declared.Refusal.TheVariants.{Lengths, Range}
@@ -152,12 +152,16 @@ pub record Found (c : Channels) (ok : Bool) (k : ℕ) (ch : Channel) : Type 0 wh
   pub inside : k < length (records c)
   pub is : ch ≡ get_or (records c) k shut_record
 
-pub found_here : (c : Channels) (fit : Bool) (k : ℕ) (ch : Channel) → fit ≡ true → k < length (records c) → ch ≡ get_or (records c) k ch → Found c fit k ch
-found_here c fit k ch f i e = record { fit = f; inside = i; is = e ∙ get_or_default (records c) k ch shut_record i }
+-- one of the records in use is that of the table
+pub in_use : (c : Channels) (k : ℕ) → k < length (records c) → get_or c.table k shut_record ≡ get_or (records c) k shut_record
+in_use c k i = let l = length-take c.n c.table in sym (get_or-take c.n c.table k shut_record (grind arith))
+
+pub found_here : (c : Channels) (fit : Bool) (k : ℕ) (ch : Channel) → fit ≡ true → k < length (records c) → ch ≡ get_or c.table k shut_record → Found c fit k ch
+found_here c fit k ch f i e = record { fit = f; inside = i; is = e ∙ in_use c k i }
 
 -- its record was written as it was
-pub unwritten : (c : Channels) (fit : Bool) (k : ℕ) (ch r : Channel) → Found c fit k ch → r ≡ ch → set (records c) k r ≡ records c
-unwritten c fit k ch r fd e = ap (λ (u : Channel). set (records c) k u) (e ∙ fd.is) ∙ set-get_or (records c) k shut_record
+pub unwritten : (c : Channels) (fit : Bool) (k : ℕ) (ch r : Channel) → Found c fit k ch → r ≡ ch → set c.table k r ≡ c.table
+unwritten c fit k ch r fd e = ap (λ (u : Channel). set c.table k u) (e ∙ (fd.is ∙ sym (in_use c k fd.inside))) ∙ set-get_or c.table k shut_record
 
 -- the channel called was not found, and why: the smaller number comes first
 pub data Lost (c : Channels) (fit : Bool) (k : ℕ) : Refusal → Type 0 where

@@ -1,5 +1,5 @@
 -- What ties channels and memories to their meaning, and what the calls promise. Assumes nothing.
-use Rattle.std.specs.Prelude.{◌≡◌, ℕ, ◌≤◌, Bool, true, false, cond, ◌&&◌, ◌||◌, List, ◌∷◌, ◌++◌, map, length, count_by, is_some, is_ok, Some, None, Ok, Err, Option, Result, MatchResult, ◌==◌, nat_le, nat_lt}
+use Rattle.std.specs.Prelude.{◌≡◌, ℕ, ◌≤◌, Bool, true, false, cond, ◌&&◌, ◌||◌, List, ◌∷◌, ◌++◌, map, length, take, count_by, is_some, is_ok, Some, None, Ok, Err, Option, Result, MatchResult, ◌==◌, nat_le, nat_lt}
 use Rattle.refusal.specs.declared.Refusal.{Refusal}
 use Rattle.refusal.specs.declared.Refusal.TheVariants.{Lengths, Range}
 use Rattle.bank.specs.declared.Queue.{Queue}
@@ -14,9 +14,9 @@ use Rattle.distributor_channels.specs.declared.SendPoll.TheVariants.{Sent, Wait,
 use Rattle.distributor_channels.specs.Steps.{SendAnswer}
 use Rattle.distributor_channels.specs.Histories.{Event, Run, Laws}
 
--- the records
+-- the records in use
 abbrev pub records : Channels → List Channel
-records c = c.table.items
+records c = take c.n c.table
 
 -- the record that stands where there is none
 abbrev pub shut_record : Channel
@@ -121,7 +121,8 @@ module _ {T : Type 0} where
 
   -- what no call changes
   pub record Steady (c : Channels) (ms : Mems T) (c' : Channels) (ms' : Mems T) : Type 0 where
-    pub n : length (records c') ≡ length (records c)
+    pub n : c'.n ≡ c.n
+    pub channels : length (records c') ≡ length (records c)
     pub places : c'.places ≡ c.places
     pub cells : c'.cells ≡ c.cells
     pub elements : size ms'.elements ≡ size ms.elements

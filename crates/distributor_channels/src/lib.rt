@@ -17,7 +17,7 @@
 // carried over to Rattle; wakers are numbers, futures are polls, drops are closes, and memory is handed in.
 #![tactic(auto)]
 
-ghost use Rattle.std.specs.Prelude.{◌≡◌, length, count_by, Err as Bad};
+ghost use Rattle.std.specs.Prelude.{◌≡◌, ◌≤◌, length, count_by, Err as Bad};
 ghost use Rattle.bank.specs.Banks.{view, SameCells};
 ghost use Rattle.distributor_channels.specs.Calls.{records, tallied, record_open, facts, seen, Does, Chronicles, Kept, Unfit, Same, Steady, Opens, Recounts, within};
 ghost use Rattle.distributor_channels.specs.Histories.{sends, receives, closes_sender, closes_receiver};
@@ -27,7 +27,6 @@ ghost use Rattle.distributor_channels.specs.Runs.{Runs};
 ghost use Rattle.distributor_channels.specs.Steps.{back, send_step, receive_step, close_sender_step, close_receiver_step};
 ghost use Rattle.refusal.specs.declared.Refusal.TheVariants.{Lengths};
 
-use arrayvec::ArrayVec;
 use bank::{Bank, Queue, Test};
 use refusal::Refusal;
 
@@ -67,10 +66,11 @@ pub struct Channel {
     senders: u32,
 }
 
-// The channels; who waits at the gate; the open count; and the lengths of the memories at opening.
+// The channels, the first n of the table; who waits at the gate; the open count; and the lengths of the memories at opening.
 #[derive(Drop)]
 pub struct Channels {
-    table: ArrayVec<Channel, MOST_CHANNELS>,
+    n: usize,
+    table: [Channel; MOST_CHANNELS],
     sending: Queue,
     count: usize,
     places: usize,
@@ -195,10 +195,9 @@ impl Channels {
             receiving: Queue::new(),
             senders,
         };
-        let mut table = ArrayVec::from([channel; MOST_CHANNELS]);
-        table.truncate(n);
         Ok(Channels {
-            table,
+            n,
+            table: [channel; MOST_CHANNELS],
             sending: Queue::new(),
             count: n,
             places,
@@ -211,7 +210,15 @@ impl Channels {
     pub fn recount<T>(&self, memories: &Memories<T>) -> usize
         ensures { Recounts self.now (seen memories.now) result }
     {
-        tally(self.table.as_slice())
+        tally(&self.table[..self.n.min(MOST_CHANNELS)])
+    }
+
+    // How many channels there are, and no more than the table has room for: an index below this is in the table.
+    fn len(&self) -> usize
+        ensures is { result ≡ length (records self.now) }
+        ensures few { result ≤ 32 }
+    {
+        self.n.min(MOST_CHANNELS)
     }
 
     // Are the memories as long as they were, and the woken list long enough?
@@ -243,10 +250,11 @@ impl Channels {
             let why = Refusal::Lengths;
             return Err(Refused { why, element });
         }
-        let Some(record) = self.table.get_mut(channel) else {
+        if channel >= self.len() {
             let why = Refusal::Range;
             return Err(Refused { why, element });
-        };
+        }
+        let record = &mut self.table[channel];
         if record.senders == 0 {
             let why = Refusal::Closed;
             return Err(Refused { why, element });
@@ -293,9 +301,10 @@ impl Channels {
         if !self.fit(memories) {
             return Err(Refusal::Lengths);
         }
-        let Some(record) = self.table.get_mut(channel) else {
+        if channel >= self.len() {
             return Err(Refusal::Range);
-        };
+        }
+        let record = &mut self.table[channel];
         let Some(queue) = &mut record.queue else {
             return Err(Refusal::Closed);
         };
@@ -338,9 +347,10 @@ impl Channels {
         if !self.fit(memories) {
             return Err(Refusal::Lengths);
         }
-        let Some(record) = self.table.get_mut(channel) else {
+        if channel >= self.len() {
             return Err(Refusal::Range);
-        };
+        }
+        let record = &mut self.table[channel];
         if record.senders == 0 {
             return Err(Refusal::Closed);
         }
@@ -372,9 +382,10 @@ impl Channels {
         if !self.fit(memories) {
             return Err(Refusal::Lengths);
         }
-        let Some(record) = self.table.get_mut(channel) else {
+        if channel >= self.len() {
             return Err(Refusal::Range);
-        };
+        }
+        let record = &mut self.table[channel];
         let was_open = record.is_open();
         let Some(mut queue) = record.queue.take() else {
             return Err(Refusal::Closed);
