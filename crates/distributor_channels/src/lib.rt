@@ -70,6 +70,7 @@ pub struct Channel {
 #[derive(Drop)]
 pub struct Channels {
     n: usize,
+    // an array and no vector in fixed memory, which an opening would fill, move and cut
     table: [Channel; MOST_CHANNELS],
     sending: Queue,
     count: usize,

@@ -117,6 +117,7 @@ pub struct Floor<'a> {
     channels: Channels,
     memories: Memories<'a, u64>,
     book: Vec<Delivery>,
+    // no `Vec`: a delivery takes heap for its book alone
     cursors: [usize; 32],
 }
 

@@ -6,7 +6,7 @@ use crate::cause::Cause;
 use crate::payload::BATCH_WORDS;
 use crate::store::Store;
 
-// A batch: its words are the first `length` of `words`, 64 at most.
+// A batch: its words are the first `length` of `words`, 64 at most. Owned and copied, so that a call needs no other storage.
 #[derive(Clone, Copy, PartialEq, Eq, Debug)]
 pub struct Batch {
     pub words: [u64; 64],
