@@ -1,14 +1,15 @@
 -- One call more in a history. Assumes nothing.
-use Rattle.std.proofs.Common.{◌≡◌, ℕ, ◌+◌, ◌-◌, ◌<◌, min, true, false, cond, eqb, List, [], ◌∷◌, ◌++◌, length, get_or, take, drop, set, Some, None, Option, Result, sym, refl, ap, ◌∙◌, subst, ⊎_elim, arith, length-append, length-drop, length-take}
+use Rattle.std.proofs.Common.{◌≡◌, ℕ, ◌+◌, ◌-◌, ◌<◌, ◌≤◌, min, replicate, true, false, cond, eqb, List, [], ◌∷◌, ◌++◌, length, get_or, take, drop, set, Some, None, Option, Result, sym, refl, ap, ◌∙◌, subst, ⊎_elim, arith, length-append, length-drop, length-take, All, IfOk}
 use Rattle.std.specs.List.{slice_get}
 use Rattle.std.specs.Option.{option_map}
-use Rattle.std.proofs.lemmas.List.{take_at, take_more, take_more_set, drop-drop, drop-set-lt}
+use Rattle.std.proofs.lemmas.List.{take_at, drop_at, drop-replicate, length-replicate, take_more, take_more_set, drop-drop, drop-set-lt}
+use Rattle.std.proofs.lemmas.List.Elements.{All-push}
 use Rattle.std.proofs.lemmas.Bool.{cases_eq, cond-true, cond-false, eq-eqb, ne_eqb}
 use Rattle.resources.specs.declared.runs.Call.{Call}
 use Rattle.resources.specs.declared.cause.Cause.{Cause}
 use Rattle.resources.specs.declared.runs.Answer.{Answer}
 use Rattle.resources.specs.Files.{File, Files, put, fresh, extended, shut, batch_at, laid, Ask, Reply}
-use Rattle.resources.specs.History.{Event, created, appended, shutdown, gave, removed, nothing, event, history, batches_of, held_by, appends, Faithful, Happens, Asked, Ran, more}
+use Rattle.resources.specs.History.{Event, created, appended, shutdown, gave, removed, nothing, event, history, batches_of, held_by, appends, Faithful, Happens, Asked, Ran, more, Fits}
 
 -- what a read gave is what stands in the place
 pub read_words : (o : Option (List ℕ)) (l : ℕ) (p q : List ℕ) → option_map length o ≡ Some l → q ≡ laid o p → length p ≡ 64 → length q ≡ 64 → o ≡ Some (take (min l 64) q)
@@ -18,6 +19,17 @@ read_words (Some ws) l p q e f lp lq =
     let lw : length ws + (64 - length ws) ≡ 64 = omega (arith, length-append ws (drop (length ws) p), length-drop (length ws) p, ap length f) in
     let m : min l 64 ≡ length ws = omega arith in
     sym (ap Some (ap (λ (k : ℕ). take k q) m ∙ ap (take (length ws)) f ∙ take_at ws (drop (length ws) p) (length ws) refl))
+
+-- and a place of zeros has zeros behind them
+pub read_fits : (o : Option (List ℕ)) (l : ℕ) (q : List ℕ) → option_map length o ≡ Some l → q ≡ laid o (replicate 64 0) → length q ≡ 64 → (l ≤ 64) × (drop l q ≡ replicate (64 - l) 0)
+read_fits None l q e f lq = absurd (let z : ◌≡◌ {A = ℕ} 0 1 = cc in omega arith)
+read_fits (Some ws) l q e f lq =
+    let zeros : List ℕ = replicate 64 0 in
+    let el : length ws ≡ l = cc in
+    let lw : length ws + (64 - length ws) ≡ 64 = omega (arith, length-append ws (drop (length ws) zeros), length-drop (length ws) zeros, length-replicate {A = ℕ} 64 0, ap length f) in (
+      omega arith,
+      ap (λ (k : ℕ). drop k q) (sym el) ∙ ap (drop (length ws)) f ∙ drop_at ws (drop (length ws) zeros) (length ws) refl ∙ drop-replicate {X = ℕ} (length ws) 64 0 ∙ ap (λ (k : ℕ). replicate (64 - k) 0) el,
+    )
 
 pub history_more : (h : List Event) (cs : List Call) (rs : List (Result Answer Cause)) (c : Call) (r : Result Answer Cause) → length cs ≡ length rs → history h (cs ++ c ∷ []) (rs ++ r ∷ []) ≡ event c r ∷ history h cs rs
 history_more h [] [] c r e = refl
@@ -103,3 +115,7 @@ module _ {S : Type 0} (steps : S → Ask → Reply → S → Type 0) (s : S) whe
 -- the places behind the i answers stay
 pub rest_more : {X : Type 0} (old rs : List X) (i : ℕ) (r : X) → drop i rs ≡ drop i old → drop (i + 1) (set rs i r) ≡ drop (i + 1) old
 rest_more old rs i r e = drop-set-lt (i + 1) rs i r (omega arith) ∙ sym (drop-drop 1 i rs) ∙ ap (drop 1) e ∙ drop-drop 1 i old
+
+-- every answer fits, and one more
+pub fit_more : (rs : List (Result Answer Cause)) (i : ℕ) (r : Result Answer Cause) → i < length rs → All (λ x. IfOk x Fits) (take i rs) → IfOk r Fits → All (λ x. IfOk x Fits) (take (i + 1) (set rs i r))
+fit_more rs i r lr a f = subst (All (λ x. IfOk x Fits)) (sym (take_more_set rs i r lr)) (All-push (λ x. IfOk x Fits) (take i rs) r a f)

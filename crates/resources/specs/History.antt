@@ -1,5 +1,5 @@
 -- What happened to a store, call by call, and what its reads gave. Assumes nothing.
-use Rattle.std.specs.Prelude.{◌≡◌, ℕ, min, if◌then◌else◌, List, [], ◌∷◌, ◌++◌, take, Some, None, Ok, Err, Option, Result, ◌==◌, ◌≢◌}
+use Rattle.std.specs.Prelude.{◌≡◌, ℕ, ◌-◌, ◌≤◌, min, if◌then◌else◌, List, [], ◌∷◌, ◌++◌, take, drop, replicate, Some, None, Ok, Err, Option, Result, ◌==◌, ◌≢◌}
 use Rattle.std.specs.List.{slice_get}
 use Rattle.resources.specs.declared.cause.Cause.{Cause}
 use Rattle.resources.specs.declared.runs.Batch.{Batch}
@@ -21,6 +21,12 @@ pub data Event : Type 0 where
 -- the words of a batch
 abbrev pub words_of : Batch → List ℕ
 words_of b = take (min b.length 64) b.words
+
+-- what was read: 64 words at most, and zeros behind them
+abbrev pub Fits : Answer → Type 0
+Fits (Number n) = Unit {0}
+Fits Done = Unit {0}
+Fits (Words b) = (b.length ≤ 64) × (drop b.length b.words ≡ replicate (64 - b.length) 0)
 
 -- what a call did, by its answer
 abbrev pub event : Call → Result Answer Cause → Event

@@ -1,6 +1,6 @@
 // Lists of calls on any store: whatever they are, every read gives what the append of that number in that file gave.
-ghost use Rattle.std.specs.Prelude.{◌≡◌, ℕ, min, [], length, take, drop};
-ghost use Rattle.resources.specs.History.{event, history, held_by, appends, Faithful, Happens, Asked, Ran};
+ghost use Rattle.std.specs.Prelude.{◌≡◌, ℕ, min, [], length, take, drop, All, IfOk};
+ghost use Rattle.resources.specs.History.{event, history, held_by, appends, Faithful, Happens, Asked, Ran, Fits};
 
 use crate::cause::Cause;
 use crate::payload::BATCH_WORDS;
@@ -38,6 +38,7 @@ pub enum Answer {
 pub fn perform<S: Store>(store: &mut S, call: Call) -> Result<Answer, Cause>
     ensures happens { Happens (S.Store.files store.old) (event call result) (S.Store.files store.new) }
     ensures asked { Asked S.Store.steps store.old call result store.new }
+    ensures fits { IfOk result Fits }
 {
     match call {
         Call::Create => Ok(Answer::Number(store.create()?)),
@@ -63,6 +64,7 @@ pub fn run<S: Store>(store: &mut S, calls: &[Call], answers: &mut [Result<Answer
     ensures asked { let n = min (length calls.now) (length answers.old) in Ran S.Store.steps store.old (take n calls.now) (take n answers.new) store.new }
     ensures faithful { let n = min (length calls.now) (length answers.old) in Faithful (held_by (S.Store.files store.old)) (history [] (take n calls.now) (take n answers.new)) }
     ensures holds { let n = min (length calls.now) (length answers.old) in (file : ℕ) → held_by (S.Store.files store.new) file ≡ appends (held_by (S.Store.files store.old)) (history [] (take n calls.now) (take n answers.new)) file }
+    ensures fit { let n = min (length calls.now) (length answers.old) in All (λ r. IfOk r Fits) (take n answers.new) }
     ensures rest { let n = min (length calls.now) (length answers.old) in drop n answers.new ≡ drop n answers.old }
 {
     let n = calls.len().min(answers.len());

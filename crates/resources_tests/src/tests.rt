@@ -6,12 +6,13 @@ use resources::notice::Notice;
 use resources::payload::{Payload, round_trip};
 use resources::receipt::{Left, Receipt, Seen};
 use resources::reservation::{Change, LIMIT_MOST, Reservation, TenantChange, apply};
-use resources::runs::{Answer, Batch, Call, run};
+use resources::runs::{Answer, Batch, Call, perform, run};
 use resources::store::Store;
 use resources::tenant::Tenant;
 use resources::tenants::Tenants;
 use resources::tripping::Tripping;
 use std::alloc::Global;
+use std::array;
 use std::test::Fail;
 use stores::block::BlockStore;
 use stores::log::LogStore;
@@ -444,5 +445,28 @@ fn runs(rt: HostRuntime) -> Result<(), Fail> {
     assert!(rt;
         batch.length == 2 && batch.words[0] == 4 && batch.words[1] == 4 && batch.words[2] == 0
     );
+    Ok(())
+}
+
+// What was read has its words, 64 of them too: the slice up to its length is there.
+#[test]
+fn whole_batches(rt: HostRuntime) -> Result<(), Fail> {
+    let mut store = log_store(rt.alloc(), 100)?;
+    let batch = Batch {
+        words: array::from_fn(|i| 100 + i as u64),
+        length: 64,
+    };
+    let calls = [Call::Create, Call::Append(1, batch), Call::Read(1, 0)];
+    let mut answers = [Ok(Answer::Done); 3];
+    run(&mut store, &calls, &mut answers);
+    let Ok(Answer::Words(read)) = answers[2] else {
+        return Err(Fail::new("a batch"));
+    };
+    let words = &read.words[..read.length];
+    assert!(rt; words.len() == 64 && words[0] == 100 && words[63] == 163);
+    let Ok(Answer::Words(again)) = perform(&mut store, Call::Read(1, 0)) else {
+        return Err(Fail::new("a batch"));
+    };
+    assert!(rt; &again.words[..again.length] == words);
     Ok(())
 }
