@@ -11,3 +11,4 @@ pub mod Spilling
 pub mod Doing
 pub mod Fetching
 pub mod Shutting
+pub mod Naming

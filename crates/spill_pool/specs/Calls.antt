@@ -14,8 +14,9 @@ use Rattle.spill_pool.specs.declared.Disk.{Disk}
 use Rattle.spill_pool.specs.declared.FileRecord.{FileRecord}
 use Rattle.spill_pool.specs.declared.OpenFile.{OpenFile}
 use Rattle.spill_pool.specs.declared.Push.{Push}
-use Rattle.spill_pool.specs.declared.Push.TheVariants.{Kept, Failed}
+use Rattle.spill_pool.specs.declared.Push.TheVariants.{Skipped, Kept, Failed}
 use Rattle.spill_pool.specs.declared.PoolPoll.{PoolPoll}
+use Rattle.spill_pool.specs.declared.PoolPoll.TheVariants.{Batch as Given, Faulty, Wait, End}
 use Rattle.spill_pool.specs.declared.SpillPool.{SpillPool}
 use Rattle.spill_pool.specs.Faults.{store_fault}
 use Rattle.spill_pool.specs.Meaning.{Setup, Pool, Batch, Kind, Replies, Facts, Frame, Sound, WriteLawful, NewLawful, PushLawful, PollLawful, CloseLawful, batch_of, is_spent, open_file, opened}
@@ -54,6 +55,12 @@ parcel rows size words = record { rows = rows; size = size; words = words }
 abbrev pub outcome : Result (Option Fault) Fault → Push
 outcome (Ok t) = Kept t
 outcome (Err e) = Failed e
+
+-- the fault that a push tells, if it tells one
+abbrev pub push_fault : Push → Option Fault
+push_fault Skipped = None
+push_fault (Kept t) = t
+push_fault (Failed f) = Some f
 
 -- an answer of the store, with its cause told as a fault of that call on that file
 abbrev pub fault_or : {A : Type 0} → ℕ → StoreCall → ℕ → Result A Cause → Result A Fault
@@ -211,6 +218,13 @@ module _ {P : Type 0} where
 
   abbrev pub Removes : Kind P → SpillPool P → Mem FileRecord → Files → SpillPool P → Mem FileRecord → Files → Result (Unit {0}) Refusal → Type 0
   Removes k = Does (λ _ _ _. Unit {0}) (λ s f m fs a. remove_step f m fs) k.width
+
+  -- the fault that a poll tells, if it tells one
+  abbrev pub poll_fault : PoolPoll P → Option Fault
+  poll_fault (Given x) = None
+  poll_fault (Faulty f) = Some f
+  poll_fault Wait = None
+  poll_fault End = None
 
   -- the oldest or the newest file
   abbrev pub Finds : (List FileRecord → Option FileRecord) → SpillPool P → Mem FileRecord → Option FileRecord → Type 0

@@ -1,5 +1,5 @@
 -- The numbers of a fault's parts, and the faults that a store's causes make. Assumes nothing.
-use Rattle.std.specs.Prelude.{ℕ, Some, None, Option}
+use Rattle.std.specs.Prelude.{◌≡◌, ℕ, ◌<◌, Some, None, Option}
 use Rattle.resources.specs.declared.cause.Cause.{Cause}
 use Rattle.resources.specs.Causes.{cause_number}
 use Rattle.spill_pool.specs.declared.fault.Layer.{Layer}
@@ -34,6 +34,10 @@ file_of f = call_file f.layer f.call f.file
 -- a store's call on a file failed with a cause
 abbrev pub store_fault : ℕ → StoreCall → ℕ → Cause → Fault
 store_fault p call file c = record { layer = Store; partition = p; call = call; file = file; cause = cause_number c }
+
+-- what a pool tells of: a call of the store failed, which is named, on a file, but for create
+abbrev pub OfCall : Fault → Type 0
+OfCall f = (f.layer ≡ Store) × (0 < call_number f.call) × (f.call ≡ Create → f.file ≡ 0)
 
 -- a feed failed with a cause
 abbrev pub feed_fault : ℕ → ℕ → Fault

@@ -16,11 +16,12 @@
 // files are records in a bank that is handed in with the store, drops are closes, and wakers are left out.
 #![tactic(auto)]
 
-ghost use Rattle.std.specs.Prelude.{◌≡◌, ℕ, ◌^◌, ◌<◌, not, ◌&&◌, ◌||◌, length, MatchResult, Some, if◌then◌else◌, nat_eq, nat_le, nat_lt};
+ghost use Rattle.std.specs.Prelude.{◌≡◌, ℕ, ◌^◌, ◌<◌, not, ◌&&◌, ◌||◌, length, IfSome, IfOk, MatchResult, Some, if◌then◌else◌, nat_eq, nat_le, nat_lt};
 ghost use Rattle.bank.specs.Banks.{view, size as extent, SameCells};
 ghost use Rattle.bank.specs.Lists.{oldest as oldest_of, newest as newest_of};
 ghost use Rattle.spill_pool.specs.Meaning.{is_spent, is_full, new_file, kind_of};
-ghost use Rattle.spill_pool.specs.Calls.{Creates, Appends, Finishes, Writes, Sweeps, Settles, FilesAway, Advances, RemovesOldest, Clears, PushesOpen, PushesNew, Opens, Finds, Pushes, Polls, Closes, Removes, Chronicles, Orderly, record_of, kept_of, outcome};
+ghost use Rattle.spill_pool.specs.Calls.{Creates, Appends, Finishes, Writes, Sweeps, Settles, FilesAway, Advances, RemovesOldest, Clears, PushesOpen, PushesNew, Opens, Finds, Pushes, Polls, Closes, Removes, Chronicles, Orderly, record_of, kept_of, outcome, push_fault, poll_fault};
+ghost use Rattle.spill_pool.specs.Faults.{OfCall};
 ghost use Rattle.spill_pool.specs.Runs.{Runs};
 ghost use Rattle.spill_pool.specs.Texts.{push_text};
 ghost use Rattle.spill_pool.specs.Histories.{pushes as pushing, polls as polling, closes as closing, removes as removing};
@@ -244,7 +245,8 @@ impl FileRecord {
         setup: Setup,
         batch: &Parcel,
     ) -> Result<Option<Fault>, Fault>
-        ensures { Writes setup batch.now.size batch.now.words.now self.old (S.Store.files store.old) self.new (S.Store.files store.new) result }
+        ensures by { Writes setup batch.now.size batch.now.words.now self.old (S.Store.files store.old) self.new (S.Store.files store.new) result }
+        ensures named { IfSome (push_fault (outcome result)) OfCall }
     {
         let mut guard = WriteGuard {
             file: self,
@@ -361,6 +363,7 @@ impl<S: Store> Disk<'_, S> {
     ) -> Result<Option<Fault>, Fault>
         ensures law { PushesOpen setup batch.now.size batch.now.words.now (view self.old.places) files.old kept (S.Store.files self.old.store) (view self.new.places) files.new current.new (S.Store.files self.new.store) result }
         ensures same { SameCells self.old.places self.new.places }
+        ensures named { IfSome (push_fault (outcome result)) OfCall }
     {
         let mut file = kept.record();
         let written = file.write(&mut self.store, setup, batch);
@@ -379,6 +382,7 @@ impl<S: Store> Disk<'_, S> {
     ) -> Result<Option<Fault>, Fault>
         ensures law { PushesNew setup batch.now.size batch.now.words.now (view self.old.places) files.old current.old (S.Store.files self.old.store) (view self.new.places) files.new current.new (S.Store.files self.new.store) result }
         ensures same { SameCells self.old.places self.new.places }
+        ensures named { IfSome (push_fault (outcome result)) OfCall }
     {
         let number = create_in(&mut self.store, setup.partition)?;
         let mut file = FileRecord::new(number);
@@ -465,6 +469,7 @@ impl<P: Payload> SpillPool<P> {
         ensures law { Pushes (kind_of P.Payload) batch.now self.old (view disk.old.places) (S.Store.files disk.old.store) self.new (view disk.new.places) (S.Store.files disk.new.store) result }
         ensures history { Chronicles (pushing batch.now) (kind_of P.Payload) self.old (view disk.old.places) (S.Store.files disk.old.store) self.new (view disk.new.places) (S.Store.files disk.new.store) result }
         ensures orderly { Orderly self.old disk.old self.new disk.new result }
+        ensures named { IfOk result (λ push. IfSome (push_fault push) OfCall) }
     {
         self.fit(disk)?;
         if self.sinks == 0 {
@@ -496,6 +501,7 @@ impl<P: Payload> SpillPool<P> {
         ensures law { Polls (kind_of P.Payload) self.old (view disk.old.places) (S.Store.files disk.old.store) self.new (view disk.new.places) (S.Store.files disk.new.store) result }
         ensures history { Chronicles polling (kind_of P.Payload) self.old (view disk.old.places) (S.Store.files disk.old.store) self.new (view disk.new.places) (S.Store.files disk.new.store) result }
         ensures orderly { Orderly self.old disk.old self.new disk.new result }
+        ensures named { IfOk result (λ polled. IfSome (poll_fault polled) OfCall) }
     {
         self.fit(disk)?;
         let Some(oldest) = disk.places.oldest(&self.files) else {
@@ -523,6 +529,7 @@ impl<P: Payload> SpillPool<P> {
         ensures law { Closes (kind_of P.Payload) self.old (view disk.old.places) (S.Store.files disk.old.store) self.new (view disk.new.places) (S.Store.files disk.new.store) result }
         ensures history { Chronicles closing (kind_of P.Payload) self.old (view disk.old.places) (S.Store.files disk.old.store) self.new (view disk.new.places) (S.Store.files disk.new.store) result }
         ensures orderly { Orderly self.old disk.old self.new disk.new result }
+        ensures named { IfOk result (λ told. IfSome told OfCall) }
     {
         self.fit(disk)?;
         if self.sinks == 0 {

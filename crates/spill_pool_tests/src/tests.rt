@@ -296,3 +296,45 @@ fn words(rt: HostRuntime) -> Result<(), Fail> {
     );
     Ok(())
 }
+
+// Does the fault name the store's call of that number, and a file, but for create?
+fn names(fault: Fault, call: u8) -> bool {
+    fault.layer == Layer::Store
+        && fault.call.number() == call
+        && fault.cause == Cause::Device.number()
+        && fault.file().is_some() == (call != StoreCall::Create.number())
+}
+
+// Each call of the store fails once, by its place among the calls: create, append, finish of a full file, read, finish at the close.
+#[test]
+fn told_faults(rt: HostRuntime) -> Result<(), Fail> {
+    let heap = rt.alloc();
+    let trips = [1, 3, 6, 7, 11];
+    let store = Tripping::new(blocks(heap)?, &trips).map_err(|(_, why)| why)?;
+    let mut cells = memory(heap, 4)?;
+    let mut disk = Disk {
+        store,
+        places: Bank::new(cells.as_mut_slice()),
+    };
+    let mut pool = SpillPool::open(&disk, 0, 20, 1)?;
+    let Push::Failed(create) = pool.push(&mut disk, &notice(1, 10))? else {
+        return Err(Fail::new("a failed create"));
+    };
+    let Push::Failed(append) = pool.push(&mut disk, &notice(2, 10))? else {
+        return Err(Fail::new("a failed append"));
+    };
+    let Push::Kept(Some(finish)) = pool.push(&mut disk, &notice(3, 21))? else {
+        return Err(Fail::new("a failed finish"));
+    };
+    let PoolPoll::Faulty(read) = pool.poll(&mut disk)? else {
+        return Err(Fail::new("a failed read"));
+    };
+    assert!(rt; names(create, 1) && names(append, 2) && names(finish, 3) && names(read, 4));
+    assert_eq!(rt; given(&mut pool, &mut disk), Ok(Some(3)));
+    assert_eq!(rt; pool.push(&mut disk, &notice(4, 1)), Ok(Push::Kept(None)));
+    let Some(last) = pool.close_sink(&mut disk)? else {
+        return Err(Fail::new("a failed finish at the close"));
+    };
+    assert!(rt; names(last, 3));
+    Ok(())
+}

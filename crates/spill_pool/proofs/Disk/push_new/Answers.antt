@@ -9,4 +9,4 @@ returns-in_err-number-clause-law g c =
     rw (p.1, p.2) (pushes_unmade c.args.setup _ c.args.batch.now.words.now _ _ _ _ _ c.args.current.now _ c.in_err-number.field-0.0 c.in_err-number.ensures refl refl)
 
 pub returns-clause-law : goal.returns-clause-law
-returns-clause-law g c = pushes_new c.args.setup _ c.args.batch.now.words.now _ _ _ _ _ _ c.in_ok-number.number c.args.current.now _ _ _ _ _ c.write-written.result c.in_ok-number.ensures c.new-file.ensures c.write-written.ensures c.kept.ensures c.file_away.ensures.law
+returns-clause-law g c = pushes_new c.args.setup _ c.args.batch.now.words.now _ _ _ _ _ _ c.in_ok-number.number c.args.current.now _ _ _ _ _ c.write-written.result c.in_ok-number.ensures c.new-file.ensures c.write-written.ensures.by c.kept.ensures c.file_away.ensures.law
