@@ -1,5 +1,5 @@
 -- One call more in a history. Assumes nothing.
-use Rattle.std.proofs.Common.{◌≡◌, ℕ, ◌+◌, ◌-◌, ◌<◌, ◌≤◌, min, replicate, true, false, cond, eqb, List, [], ◌∷◌, ◌++◌, length, get_or, take, drop, set, Some, None, Option, Result, sym, refl, ap, ◌∙◌, subst, ⊎_elim, arith, length-append, length-drop, length-take, All, IfOk}
+use Rattle.std.proofs.Common.{◌≡◌, ℕ, ◌+◌, ◌-◌, ◌<◌, ◌≤◌, min, replicate, true, false, cond, eqb, List, [], ◌∷◌, ◌++◌, length, get_or, take, drop, set, Some, None, Option, Result, sym, refl, ap, ◌∙◌, subst, ⊎_elim, arith, length-append, length-drop, length-take, All}
 use Rattle.std.specs.List.{slice_get}
 use Rattle.std.specs.Option.{option_map}
 use Rattle.std.proofs.lemmas.List.{take_at, drop_at, drop-replicate, length-replicate, take_more, take_more_set, drop-drop, drop-set-lt}
@@ -9,7 +9,7 @@ use Rattle.resources.specs.declared.runs.Call.{Call}
 use Rattle.resources.specs.declared.cause.Cause.{Cause}
 use Rattle.resources.specs.declared.runs.Answer.{Answer}
 use Rattle.resources.specs.Files.{File, Files, put, fresh, extended, shut, batch_at, laid, Ask, Reply}
-use Rattle.resources.specs.History.{Event, created, appended, shutdown, gave, removed, nothing, event, history, batches_of, held_by, appends, Faithful, Happens, Asked, Ran, more, Fits}
+use Rattle.resources.specs.History.{Event, created, appended, shutdown, gave, removed, nothing, event, history, batches_of, held_by, appends, Faithful, Happens, Asked, Ran, more}
 
 -- what a read gave is what stands in the place
 pub read_words : (o : Option (List ℕ)) (l : ℕ) (p q : List ℕ) → option_map length o ≡ Some l → q ≡ laid o p → length p ≡ 64 → length q ≡ 64 → o ≡ Some (take (min l 64) q)
@@ -116,6 +116,6 @@ module _ {S : Type 0} (steps : S → Ask → Reply → S → Type 0) (s : S) whe
 pub rest_more : {X : Type 0} (old rs : List X) (i : ℕ) (r : X) → drop i rs ≡ drop i old → drop (i + 1) (set rs i r) ≡ drop (i + 1) old
 rest_more old rs i r e = drop-set-lt (i + 1) rs i r (omega arith) ∙ sym (drop-drop 1 i rs) ∙ ap (drop 1) e ∙ drop-drop 1 i old
 
--- every answer fits, and one more
-pub fit_more : (rs : List (Result Answer Cause)) (i : ℕ) (r : Result Answer Cause) → i < length rs → All (λ x. IfOk x Fits) (take i rs) → IfOk r Fits → All (λ x. IfOk x Fits) (take (i + 1) (set rs i r))
-fit_more rs i r lr a f = subst (All (λ x. IfOk x Fits)) (sym (take_more_set rs i r lr)) (All-push (λ x. IfOk x Fits) (take i rs) r a f)
+-- what holds of the i answers holds with one more
+pub fit_more : {X : Type 0} (P : X → Type 0) (rs : List X) (i : ℕ) (r : X) → i < length rs → All P (take i rs) → P r → All P (take (i + 1) (set rs i r))
+fit_more P rs i r lr a f = subst (All P) (sym (take_more_set rs i r lr)) (All-push P (take i rs) r a f)

@@ -11,4 +11,3 @@ pub mod Spilling
 pub mod Doing
 pub mod Fetching
 pub mod Shutting
-pub mod Naming

@@ -1,7 +1,7 @@
 -- No call yet, and one call more.
-use Rattle.std.proofs.Common.{◌<◌, length, refl, arith, length-take}
+use Rattle.std.proofs.Common.{◌<◌, length, refl, arith, length-take, IfOk}
 use Rattle.std.proofs.lemmas.List.{get_or-take}
-use Rattle.resources.specs.History.{none}
+use Rattle.resources.specs.History.{none, Fits}
 use Rattle.resources.proofs.Histories.{running_more, ranging_more, rest_more, fit_more}
 use Rattle.resources.proofs.runs.run.Goals as goal
 
@@ -21,5 +21,5 @@ loop-i-preserved g c =
       ranging_more g.S.Store.steps c.args.store.now c.loop-i.store c.perform.new.store cs c.loop-i.answers i _ c.perform.result lc lr c.loop-i.invariant.0 made.asked,
       running_more (files c.args.store.now) (files c.loop-i.store) (files c.perform.new.store) cs c.loop-i.answers i _ c.perform.result lc lr c.loop-i.invariant.1 made.happens,
       rest_more c.args.answers.now c.loop-i.answers i c.perform.result c.loop-i.invariant.2,
-      fit_more c.loop-i.answers i c.perform.result lr c.loop-i.invariant.3 c.perform.ensures.fits,
+      fit_more (λ r. IfOk r Fits) c.loop-i.answers i c.perform.result lr c.loop-i.invariant.3 c.perform.ensures.fits,
     )

@@ -1,7 +1,6 @@
 use Rattle.std.proofs.Common.{ℕ, ◌+◌, ◌-◌, ◌^◌, min, sym, ap, ◌∙◌, arith}
 use Rattle.std.proofs.lemmas.Result.{err_from_is_err_and}
 use Rattle.spill_pool.proofs.Guarding.{writes_failed, writes_kept, writes_full}
-use Rattle.spill_pool.proofs.Naming.{append_named, finish_named}
 use Rattle.spill_pool.proofs.FileRecord.write.Goals as goal
 
 pub returns-in_err-append_to-clause-by : goal.returns-in_err-append_to-clause-by
@@ -20,12 +19,3 @@ returns-clause-by g c =
     writes_kept c.args.setup c.args.batch.now.size _ c.args.self.now _ _ c.append_to.result c.append_to.ensures tt c.in_ok-append_to.was c.saturating_add-guard.result c.saturating_add-guard-2.result
     c.saturating_add-guard.ensures (c.saturating_add-guard-2.ensures ∙ ap (λ (x : ℕ). min (c.args.self.now.sum + x) (2 ^ 64 - 1)) c.from.ensures) (omega arith)
     _ c.drop-guard-2.ensures (sym c.is_full.ensures ∙ c.if-is_full.false)
-
--- what is told is what the append or the finish failed with
-pub returns-in_err-append_to-clause-named : goal.returns-in_err-append_to-clause-named
-returns-in_err-append_to-clause-named g c =
-    let p = err_from_is_err_and c.from_residual.result c.from_residual.ensures.1 in
-    rw (p.1, p.2) (append_named _ _ _ _ _ c.append_to.result _ c.append_to.ensures c.in_err-append_to.was)
-
-pub returns-then-is_full-clause-named : goal.returns-then-is_full-clause-named
-returns-then-is_full-clause-named g c = finish_named _ _ _ _ c.finish.result c.finish.ensures
